@@ -1,0 +1,11 @@
+pub mod Direction
+pub mod Refusal
+pub mod Small
+pub mod Point
+pub mod Sides
+pub mod Connect
+pub mod Walk
+pub mod DirectionLaws
+pub mod PointLaws
+pub mod SidesLaws
+pub mod WalkLaws

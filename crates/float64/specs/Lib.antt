@@ -1,0 +1,13 @@
+-- What other crates cite on f64, so that none of them opens a float: the NaN, the order, rounding and signs, each with its laws, then the weighted mean
+-- and the bit patterns.
+pub mod Literals
+pub mod Sign
+pub mod Nan
+pub mod Order
+pub mod Rounding
+pub mod SignLaws
+pub mod Monotone
+pub mod Mean
+pub mod MeanLaws
+pub mod Bits
+pub mod BitsLaws
