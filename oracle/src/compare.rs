@@ -1,0 +1,78 @@
+//! The published Rust held against the reading on many random maps: every outcome, the whole store, the listing, walks, rays, knots
+//! and evaluations. The first difference stops the run.
+use crate::calls::Call;
+use crate::draw::{MapList, Plan, full_map, map};
+use crate::map_calls::{MapAnswer, MapCall};
+use crate::random::Random;
+
+/// How often each answer occurs, by kind of call.
+#[derive(Default)]
+pub struct Tally([[u64; 12]; 6]);
+
+const WORDS: [&str; 6] = ["insertion", "ray", "knots", "evaluation", "direct call", "walk"];
+
+impl Tally {
+    pub fn count(&mut self, call: MapCall, answer: &MapAnswer) {
+        let kind = match call {
+            MapCall::Insert { .. } => 0,
+            MapCall::Ray { .. } => 1,
+            MapCall::Knots { .. } => 2,
+            MapCall::Evaluate { .. } => 3,
+            MapCall::Direct(Call::Navigate(..)) => 5,
+            MapCall::Direct(_) => 4,
+        };
+        self.0[kind][answer.number() as usize] += 1;
+    }
+
+    pub fn print(&self) {
+        for (word, row) in WORDS.iter().zip(self.0) {
+            let counts: Vec<String> = row.iter().enumerate().filter(|(_, n)| **n > 0).map(|(number, n)| format!("{number}: {n}")).collect();
+            println!("{word:12} {}", counts.join(", "));
+        }
+    }
+}
+
+/// Rays of lengths 0 to 5 and walks from every point and side, the knots of every point, some evaluations.
+fn probe(list: &mut MapList, random: &mut Random, tally: &mut Tally) {
+    let mut calls = Vec::new();
+    for point in 0..list.maps.made() as u8 {
+        for direction in 0..4 {
+            calls.extend((0..=5).map(|count| MapCall::Ray { point, direction, count }));
+            calls.extend((0..4).map(|watch| MapCall::Direct(Call::Navigate(point, direction, watch))));
+        }
+        calls.push(MapCall::Knots { point });
+    }
+    for _ in 0..6 {
+        calls.push(MapCall::Evaluate { s: random.unit(), t: random.unit() });
+    }
+    for call in calls {
+        let answer = list.maps.make(call);
+        tally.count(call, &answer);
+    }
+}
+
+pub fn run(seed: u64, maps: usize) {
+    let mut random = Random::new(seed);
+    let mut tally = Tally::default();
+    let mut left_behind = 0;
+    for place in 0..maps {
+        let mut list = if place % 50 == 0 {
+            full_map(&mut random)
+        } else {
+            let edits = random.of(&[3, 6, 10, 20, 40]);
+            let plan = Plan { edits: random.below(edits) + 1, evaluations: true, direct_calls: place % 10 == 0 };
+            map(&mut random, plan)
+        };
+        list.calls.iter().for_each(|(call, answer)| tally.count(*call, answer));
+        list.maps.assert_same();
+        if list.maps.followed {
+            probe(&mut list, &mut random, &mut tally);
+            list.maps.assert_same();
+        } else {
+            left_behind += 1;
+        }
+    }
+    println!("{maps} maps agree; {left_behind} of them were compared only up to an insertion torn by a ring");
+    println!("answers, by number:");
+    tally.print();
+}

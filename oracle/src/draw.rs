@@ -1,0 +1,164 @@
+//! Maps drawn at random. Ratios come from a few values and near misses of them, so that lines meet and links are inferred, and
+//! some maps start with edits that lead to rings.
+use crate::calls::Call;
+use crate::map_calls::{MapAnswer, MapCall, Maps};
+use crate::random::Random;
+use crate::reading::CAPACITY;
+
+/// Edits (point, direction, ratio) after which rings are near.
+pub const RING_PREFIXES: [&[(u8, usize, f64)]; 5] = [
+    &[(3, 1, 0.0), (0, 1, 0.0), (4, 3, 0.5), (1, 3, 1.0), (6, 2, 0.25), (4, 2, 0.25)],
+    &[(2, 2, 0.25), (0, 0, 0.75), (2, 2, 1.0), (0, 0, 1.0), (7, 2, 0.5), (7, 1, 0.5), (4, 3, 0.5)],
+    &[(2, 2, 0.25), (0, 0, 0.75), (2, 2, 1.0), (0, 0, 1.0), (7, 1, 0.5), (4, 3, 0.5), (5, 0, 0.0)],
+    &[(2, 2, 0.25), (0, 0, 0.75), (2, 2, 0.9999991), (0, 0, 0.9999999), (7, 2, 0.5), (7, 1, 0.5), (4, 3, 0.5)],
+    &[(3, 1, 1e-7), (0, 1, 5e-7), (4, 3, 0.5), (1, 3, 1.0), (6, 2, 0.25), (4, 2, 0.25), (7, 3, 0.500002)],
+];
+
+/// A map and every call made on it.
+pub struct MapList {
+    pub maps: Maps,
+    pub calls: Vec<(MapCall, MapAnswer)>,
+}
+
+impl MapList {
+    pub fn new(corners: [[f64; 3]; 4], border: f64) -> MapList {
+        MapList { maps: Maps::new(corners, border), calls: Vec::new() }
+    }
+
+    pub fn call(&mut self, call: MapCall) -> MapAnswer {
+        let answer = self.maps.make(call);
+        self.calls.push((call, answer.clone()));
+        answer
+    }
+
+    pub fn insert(&mut self, random: &mut Random, con: u8, direction: usize, ratio: f64) -> MapAnswer {
+        let position = position(random);
+        self.call(MapCall::Insert { con, direction, ratio, position })
+    }
+}
+
+fn coordinate(random: &mut Random) -> f64 {
+    if random.one_in(60) { random.of(&[f64::INFINITY, f64::NAN, -3.5, 1e300, -0.0]) } else { random.unit() }
+}
+
+pub fn position(random: &mut Random) -> [f64; 3] { std::array::from_fn(|_| coordinate(random)) }
+
+fn border(random: &mut Random) -> f64 {
+    if random.one_in(3) { random.of(&[0.0, -0.0, 0.25, 0.5, 2.0, 1e-7, 1e-6, f64::INFINITY, -1.0, -0.25, f64::NAN]) } else { 1.0 }
+}
+
+/// How the ratios of one map are drawn.
+#[derive(Clone, Copy)]
+enum Ratios {
+    Quarters,
+    Ends,
+    NearMisses,
+    Any,
+}
+
+fn ratio(random: &mut Random, ratios: Ratios) -> f64 {
+    if random.one_in(40) {
+        return random.of(&[-0.0, 2.0, -0.25, f64::NAN, f64::INFINITY, 1.0000000000000002, -5e-324]);
+    }
+    match ratios {
+        Ratios::Quarters => random.of(&[0.0, 0.25, 0.5, 0.5, 0.75, 1.0]),
+        Ratios::Ends => random.of(&[0.0, -0.0, 1.0, 0.5]),
+        Ratios::NearMisses => random.of(&[0.0, 1e-6, 5e-7, 1e-7, 0.25, 0.250001, 0.5, 0.500001, 0.4999995, 0.500002, 0.75, 0.999999, 0.9999999, 1.0]),
+        Ratios::Any => random.unit(),
+    }
+}
+
+/// A listed point and a side of it that is a link, where a few draws find them.
+fn place(random: &mut Random, maps: &Maps) -> (u8, usize) {
+    if random.one_in(30) {
+        return (random.below(256) as u8, random.below(4));
+    }
+    let listed = &maps.reading.listed;
+    let mut found = (random.of(listed), random.below(4));
+    for _ in 0..6 {
+        if random.one_in(20) || maps.reading.store.side(found.0, found.1).is_link() {
+            break;
+        }
+        found = (random.of(listed), random.below(4));
+    }
+    found
+}
+
+/// A direct call on a map's points: a link cut, joined again at some interval, a weight set, a point made alone.
+fn direct_call(random: &mut Random, maps: &Maps) -> Call {
+    let point = random.below(maps.made()) as u8;
+    let other = random.below(maps.made()) as u8;
+    let d = random.below(4);
+    let interval = random.of(&[0.0, 0.25, 0.5, 1.0, 1.0, 1e-7, f64::INFINITY, f64::NAN]);
+    match random.below(8) {
+        0 => Call::Make(interval),
+        1..=3 => Call::RemoveConnection(point, d),
+        4 => Call::SetEdgeConWeight(point, d, random.of(&[0.0, 0.5, 1.0])),
+        5 => Call::Navigate(point, d, random.below(4)),
+        _ => {
+            let open = (0..4).find(|side| maps.reading.store.side(point, *side).is_opening());
+            Call::Connect(point, other, open.unwrap_or(d), interval)
+        }
+    }
+}
+
+pub fn evaluation(random: &mut Random) -> MapCall {
+    let parameter = |random: &mut Random| match random.below(12) {
+        0 => random.of(&[-0.5, -1.0, 1.5, 2.0, 5.0, f64::NAN, f64::INFINITY]),
+        1..=6 => random.of(&[0.0, 0.125, 0.25, 0.375, 0.5, 0.75, 0.999999, 1.0]),
+        _ => random.unit(),
+    };
+    MapCall::Evaluate { s: parameter(random), t: parameter(random) }
+}
+
+/// What a map is drawn for.
+#[derive(Clone, Copy)]
+pub struct Plan {
+    pub edits: usize,
+    pub evaluations: bool,
+    pub direct_calls: bool,
+}
+
+/// A map after random edits, evaluated in between.
+pub fn map(random: &mut Random, plan: Plan) -> MapList {
+    let corners = std::array::from_fn(|_| position(random));
+    let mut list = MapList::new(corners, border(random));
+    if random.one_in(4) {
+        let prefix = random.of(&RING_PREFIXES);
+        let length = if random.one_in(2) { prefix.len() } else { random.below(prefix.len()) };
+        for &(con, direction, ratio) in &prefix[..length] {
+            list.insert(random, con, direction, ratio);
+        }
+    }
+    let ratios = random.of(&[Ratios::Quarters, Ratios::Quarters, Ratios::Ends, Ratios::NearMisses, Ratios::NearMisses, Ratios::Any]);
+    for _ in 0..plan.edits {
+        let (con, direction) = place(random, &list.maps);
+        let ratio = ratio(random, ratios);
+        list.insert(random, con, direction, ratio);
+        if plan.evaluations && random.one_in(8) {
+            list.call(evaluation(random));
+        }
+        if plan.direct_calls && random.one_in(3) {
+            let call = direct_call(random, &list.maps);
+            list.call(MapCall::Direct(call));
+        }
+    }
+    if plan.evaluations {
+        list.call(evaluation(random));
+    }
+    list
+}
+
+/// A map whose store is filled, and edits beyond.
+pub fn full_map(random: &mut Random) -> MapList {
+    let plan = Plan { edits: 100, evaluations: false, direct_calls: false };
+    let mut list = map(random, plan);
+    let mut edits = 0;
+    while edits < 600 && (list.maps.made() < CAPACITY || edits % 4 != 0) {
+        let (con, direction) = place(random, &list.maps);
+        let ratio = random.of(&[0.25, 0.5, 0.75]);
+        list.insert(random, con, direction, ratio);
+        edits += 1;
+    }
+    list
+}

@@ -1,0 +1,143 @@
+//! Lists of calls on whole maps, each with the answer of every call and the map at the end.
+use crate::bytes::Bytes;
+use crate::calls::Call;
+use crate::draw::{MapList, Plan, RING_PREFIXES, evaluation, full_map, map};
+use crate::map_calls::{MapCall, put_map, put_map_answer, put_map_call};
+use crate::random::Random;
+use crate::reading::{LEFT, RIGHT, UP};
+
+const ALL_RAYS: usize = 24;
+const SOME_RAYS: usize = 260;
+const DIRECT_CALLS: usize = 60;
+const FULL_STORES: usize = 4;
+
+const SQUARE: [[f64; 3]; 4] = [[0.0, 0.0, 0.0], [1.0, 0.0, 0.0], [1.0, 1.0, 1.0], [0.0, 1.0, 1.0]];
+
+fn square() -> MapList { MapList::new(SQUARE, 1.0) }
+
+/// The readings that the description of the behaviour works out, on the square map with border 1.0.
+fn worked_examples(random: &mut Random) -> Vec<MapList> {
+    let insert = |list: &mut MapList, random: &mut Random, edits: &[(u8, usize, f64)]| {
+        for &(con, direction, ratio) in edits {
+            list.insert(random, con, direction, ratio);
+        }
+    };
+    let mut fresh = square();
+    for point in 0..5 {
+        fresh.call(MapCall::Knots { point });
+    }
+    for count in 0..4 {
+        fresh.call(MapCall::Ray { point: 0, direction: LEFT, count });
+    }
+    for (s, t) in [(0.5, 0.5), (5.0, 0.5), (0.0, 1.0), (f64::NAN, 0.5)] {
+        fresh.call(MapCall::Evaluate { s, t });
+    }
+    insert(&mut fresh, random, &[(0, LEFT, 0.5), (0, RIGHT, 2.0), (4, RIGHT, 0.5), (255, UP, 0.5)]);
+
+    let mut at_one = square();
+    insert(&mut at_one, random, &[(0, RIGHT, 1.0)]);
+
+    let mut torn = square();
+    torn.call(MapCall::Evaluate { s: 0.25, t: 0.75 });
+    insert(&mut torn, random, &[(0, RIGHT, 0.0), (4, RIGHT, 0.5)]);
+    torn.call(MapCall::Evaluate { s: 0.25, t: 0.75 });
+
+    let mut inferred = square();
+    insert(&mut inferred, random, &[(0, RIGHT, 0.5)]);
+    inferred.call(MapCall::Ray { point: 4, direction: UP, count: 2 });
+    insert(&mut inferred, random, &[(3, RIGHT, 0.5)]);
+
+    let mut infinite = square();
+    infinite.call(MapCall::Direct(Call::RemoveConnection(0, RIGHT)));
+    infinite.call(MapCall::Direct(Call::Connect(0, 1, RIGHT, f64::INFINITY)));
+    insert(&mut infinite, random, &[(0, RIGHT, 0.5)]);
+    infinite.call(MapCall::Evaluate { s: 0.5, t: 0.5 });
+    vec![square(), fresh, at_one, torn, inferred, infinite]
+}
+
+/// The edits after which rings are near, with what follows from them.
+fn rings(random: &mut Random) -> Vec<MapList> {
+    let mut lists = Vec::new();
+    for prefix in RING_PREFIXES {
+        let mut list = square();
+        for &(con, direction, ratio) in prefix {
+            list.insert(random, con, direction, ratio);
+        }
+        list.call(MapCall::Evaluate { s: 0.5, t: 0.5 });
+        all_rays(&mut list);
+        lists.push(list);
+    }
+    lists
+}
+
+fn all_rays(list: &mut MapList) {
+    for point in 0..list.maps.made() as u8 {
+        for direction in 0..4 {
+            for count in 0..=5 {
+                list.call(MapCall::Ray { point, direction, count });
+            }
+        }
+        list.call(MapCall::Knots { point });
+    }
+}
+
+fn some_rays(list: &mut MapList, random: &mut Random) {
+    for _ in 0..16 {
+        let point = if random.one_in(40) { random.below(256) } else { random.below(list.maps.made()) } as u8;
+        list.call(MapCall::Ray { point, direction: random.below(4), count: random.of(&[0, 1, 2, 2, 3, 4, 5, 5]) });
+    }
+    for _ in 0..3 {
+        let point = random.below(list.maps.made() + 1) as u8;
+        list.call(MapCall::Knots { point });
+    }
+    list.call(evaluation(random));
+}
+
+fn put(out: &mut Bytes, list: &MapList) {
+    list.maps.assert_same();
+    let mut body = Bytes::default();
+    body.float(list.maps.border);
+    list.maps.corners.iter().flatten().for_each(|x| body.float(*x));
+    body.pair(list.calls.len() as u16);
+    for (call, answer) in &list.calls {
+        put_map_call(&mut body, *call);
+        put_map_answer(&mut body, answer);
+    }
+    put_map(&mut body, &list.maps.reading);
+    out.pair(u16::try_from(body.0.len()).expect("a list is shorter than 65,536 bytes"));
+    out.0.extend(body.0);
+}
+
+pub fn write(seed: u64) {
+    let mut random = Random::new(seed);
+    let mut lists = worked_examples(&mut random);
+    lists.extend(rings(&mut random));
+    for place in 0..ALL_RAYS + SOME_RAYS + DIRECT_CALLS {
+        let direct_calls = place >= ALL_RAYS + SOME_RAYS;
+        let edits = 1 + if place < ALL_RAYS { place % 9 } else { random.below(28) };
+        let mut list = map(&mut random, Plan { edits, evaluations: true, direct_calls });
+        if place < ALL_RAYS {
+            all_rays(&mut list);
+        } else {
+            some_rays(&mut list, &mut random);
+        }
+        lists.push(list);
+    }
+    for _ in 0..FULL_STORES {
+        let mut list = full_map(&mut random);
+        some_rays(&mut list, &mut random);
+        lists.push(list);
+    }
+    let mut out = Bytes::default();
+    lists.iter().for_each(|list| put(&mut out, list));
+    print_table(&lists);
+    out.write("crates/insertion_replay/data/cases");
+}
+
+fn print_table(lists: &[MapList]) {
+    let mut tally = crate::compare::Tally::default();
+    lists.iter().flat_map(|list| &list.calls).for_each(|(call, answer)| tally.count(*call, answer));
+    let alone = lists.iter().filter(|list| !list.maps.followed).count();
+    println!("{} lists, {} calls; {alone} lists hold an insertion torn by a ring, after which the reading alone answers", lists.len(), lists.iter().map(|list| list.calls.len()).sum::<usize>());
+    tally.print();
+}

@@ -1,0 +1,30 @@
+//! The comparison with the published T-mesh: README.md says what each word does.
+mod basis_cases;
+mod bytes;
+mod calls;
+mod compare;
+mod draw;
+mod insertion_cases;
+mod map_calls;
+mod original;
+mod random;
+mod reading;
+mod store_cases;
+
+/// The seed of every stored list.
+const SEED: u64 = 20030727;
+
+fn main() {
+    let words: Vec<String> = std::env::args().skip(1).collect();
+    match words.first().map(String::as_str) {
+        Some("basis") => basis_cases::write(SEED),
+        Some("store") => store_cases::write(SEED),
+        Some("insertion") => insertion_cases::write(SEED),
+        Some("compare") => {
+            let maps = words.get(1).map_or(20000, |word| word.parse().expect("a number of maps"));
+            let seed = words.get(2).map_or(SEED, |word| word.parse().expect("a seed"));
+            compare::run(seed, maps)
+        }
+        _ => println!("words: basis store insertion compare"),
+    }
+}

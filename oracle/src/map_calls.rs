@@ -1,0 +1,224 @@
+//! Calls on a whole map, made on both sides at once: the reading's answer is the answer, and the published one must be the same
+//! wherever it exists.
+use crate::bytes::{Bytes, bits_of};
+use crate::calls::{Answer, Call, assert_same_points, hold_against, perform, put_answer, put_call, put_points};
+use crate::original;
+use crate::reading::{self, FULL, Insertion, Knots, NO_POINT, RING, Side, TORN, Value, anticlockwise, clockwise};
+
+/// One call on a map.
+#[derive(Clone, Copy, Debug)]
+pub enum MapCall {
+    Insert { con: u8, direction: usize, ratio: f64, position: [f64; 3] },
+    Ray { point: u8, direction: usize, count: usize },
+    Knots { point: u8 },
+    Evaluate { s: f64, t: f64 },
+    Direct(Call),
+}
+
+/// What a call on a map answers.
+#[derive(Clone, Debug)]
+pub enum MapAnswer {
+    Inserted(Insertion),
+    Cast(Result<Vec<f64>, u8>),
+    Knotted(Result<Knots, u8>),
+    Evaluated(Result<Value, u8>),
+    Direct(Answer),
+}
+
+impl MapAnswer {
+    /// The answer's number, 0 for done.
+    pub fn number(&self) -> u8 {
+        match self {
+            MapAnswer::Inserted(Insertion::Done(_)) => 0,
+            MapAnswer::Inserted(Insertion::Torn(..)) => TORN,
+            MapAnswer::Inserted(Insertion::Refused(number)) => *number,
+            MapAnswer::Cast(answer) => answer.as_ref().err().copied().unwrap_or(0),
+            MapAnswer::Knotted(answer) => answer.err().unwrap_or(0),
+            MapAnswer::Evaluated(answer) => answer.err().unwrap_or(0),
+            MapAnswer::Direct(answer) => answer.number,
+        }
+    }
+}
+
+/// The two maps, the reading's and the published one.
+pub struct Maps {
+    pub reading: reading::Map,
+    original: original::Map,
+    /// Whether the published map still stands where the reading does: an insertion torn by a ring is not made there.
+    pub followed: bool,
+    /// Whether the knots that the two keep are the same: falling knots are sorted there.
+    same_knots: bool,
+    pub corners: [[f64; 3]; 4],
+    pub border: f64,
+}
+
+fn bits<const N: usize>(floats: [f64; N]) -> [u64; N] { floats.map(bits_of) }
+
+impl Maps {
+    pub fn new(corners: [[f64; 3]; 4], border: f64) -> Maps {
+        Maps {
+            reading: reading::Map::new(corners, border),
+            original: original::Map::new(corners, border),
+            followed: true,
+            same_knots: true,
+            corners,
+            border,
+        }
+    }
+
+    pub fn made(&self) -> usize { self.reading.store.made() }
+
+    pub fn make(&mut self, call: MapCall) -> MapAnswer {
+        match call {
+            MapCall::Insert { con, direction, ratio, position } => MapAnswer::Inserted(self.insert(con, direction, ratio, position)),
+            MapCall::Ray { point, direction, count } => MapAnswer::Cast(self.ray(point, direction, count)),
+            MapCall::Knots { point } => MapAnswer::Knotted(self.knots(point)),
+            MapCall::Evaluate { s, t } => MapAnswer::Evaluated(self.evaluate(s, t)),
+            MapCall::Direct(call) => MapAnswer::Direct(self.direct(call)),
+        }
+    }
+
+    fn insert(&mut self, con: u8, d: usize, ratio: f64, position: [f64; 3]) -> Insertion {
+        let answer = self.reading.add_control_point(position, con, d, ratio);
+        match answer {
+            Insertion::Refused(FULL) => return answer,
+            Insertion::Refused(_) if con as usize >= self.made() => return answer,
+            Insertion::Torn(_, RING) => self.followed = false,
+            Insertion::Done(_) => self.same_knots = true,
+            _ => {}
+        }
+        if self.followed {
+            let published = self.original.add_control_point(position, con, d, ratio);
+            assert_eq!(published, MapAnswer::Inserted(answer).number(), "insertion at {con} {d} {ratio}");
+            if let Insertion::Done(counts) | Insertion::Torn(counts, _) = answer {
+                self.assert_counted(d, counts);
+            }
+        }
+        answer
+    }
+
+    /// The counts are what can be read from the new point: its sides across the line that are no borders, and those that are links.
+    fn assert_counted(&self, d: usize, counts: reading::Counts) {
+        let new = self.reading.store.points.last().expect("a point was made");
+        let across = [new.sides[clockwise(d)], new.sides[anticlockwise(d)]];
+        let count = |wanted: fn(&Side) -> bool| across.iter().filter(|side| wanted(side)).count() as u8;
+        assert_eq!(count(|side| !side.is_border()), counts.opened);
+        assert_eq!(count(|side| side.is_link()), counts.inferred);
+    }
+
+    fn ray(&mut self, point: u8, d: usize, count: usize) -> Result<Vec<f64>, u8> {
+        let answer = self.reading.store.cast_ray(point, d, count);
+        if self.followed && !matches!(answer, Err(RING | NO_POINT)) {
+            let published = self.original.store.cast_ray(point, d, count);
+            let plain = |ray: &Result<Vec<f64>, u8>| ray.clone().map(|entries| entries.into_iter().map(bits_of).collect::<Vec<_>>());
+            assert_eq!(plain(&published), plain(&answer), "ray from {point} {d} of {count}");
+        }
+        answer
+    }
+
+    fn knots(&mut self, point: u8) -> Result<Knots, u8> {
+        let answer = self.reading.store.point_knot_vectors(point);
+        if self.followed && !matches!(answer, Err(RING | NO_POINT)) && answer.map_or(true, |knots| knots.never_fall()) {
+            let published = self.original.store.point_knot_vectors(point);
+            let plain = |knots: Result<Knots, u8>| knots.map(|knots| (bits(knots.s), bits(knots.t)));
+            assert_eq!(plain(published), plain(answer), "knots of {point}");
+        }
+        answer
+    }
+
+    fn evaluate(&mut self, s: f64, t: f64) -> Result<Value, u8> {
+        let converts = self.reading.kept.is_some() || self.conversion_ends();
+        let answer = self.reading.subs(s, t);
+        if answer.err() == Some(RING) || answer.is_err() && !converts {
+            return answer;
+        }
+        if self.reading.kept.iter().flatten().any(|knots| !knots.never_fall()) {
+            self.same_knots = false;
+        }
+        if self.followed && self.same_knots {
+            let published = self.original.subs(s, t).map(bits);
+            assert_eq!(published, answer.map(|value| bits(value.position)), "evaluation at {s} {t}");
+            assert_eq!(self.original.keeps_knots(), self.reading.kept.is_some());
+        }
+        answer
+    }
+
+    /// Whether no knots before the first refusal hold a NaN, at which the published conversion panics.
+    fn conversion_ends(&self) -> bool {
+        let knots = self.reading.listed.iter().map(|&point| self.reading.store.point_knot_vectors(point));
+        knots.map_while(Result::ok).all(|knots| !knots.s.iter().chain(&knots.t).any(|knot| knot.is_nan()))
+    }
+
+    fn direct(&mut self, call: Call) -> Answer {
+        let answer = perform(&mut self.reading.store, call);
+        if let Call::Make(_) = call {
+            if answer.number == 0 {
+                self.reading.positions.push([0.0; 3]);
+            }
+        }
+        if self.followed && ![NO_POINT, FULL, RING].contains(&answer.number) {
+            hold_against(&mut self.original.store, call, answer);
+        }
+        answer
+    }
+
+    pub fn assert_same(&self) {
+        if self.followed {
+            assert_same_points(&self.reading.store.points, &self.original.store.read());
+            assert_eq!(self.reading.listed, self.original.listed());
+        }
+    }
+}
+
+/// A call's bytes: its kind, its numbers and directions, its floats. A direct call's kind is 16 more than in a list of direct calls.
+pub fn put_map_call(out: &mut Bytes, call: MapCall) {
+    match call {
+        MapCall::Insert { con, direction, ratio, position } => {
+            [0, con, direction as u8].iter().for_each(|n| out.byte(*n));
+            out.float(ratio);
+            position.iter().for_each(|x| out.float(*x));
+        }
+        MapCall::Ray { point, direction, count } => [1, point, direction as u8, count as u8].iter().for_each(|n| out.byte(*n)),
+        MapCall::Knots { point } => [2, point].iter().for_each(|n| out.byte(*n)),
+        MapCall::Evaluate { s, t } => {
+            out.byte(3);
+            out.float(s);
+            out.float(t);
+        }
+        MapCall::Direct(call) => {
+            let start = out.0.len();
+            put_call(out, call);
+            out.0[start] += 16;
+        }
+    }
+}
+
+/// An answer's bytes: its number; of an insertion done or torn its counts; of any other that was not refused its floats.
+pub fn put_map_answer(out: &mut Bytes, answer: &MapAnswer) {
+    if let MapAnswer::Direct(answer) = answer {
+        return put_answer(out, *answer);
+    }
+    out.byte(answer.number());
+    match answer {
+        MapAnswer::Inserted(Insertion::Done(counts) | Insertion::Torn(counts, _)) => {
+            out.byte(counts.opened);
+            out.byte(counts.inferred);
+        }
+        MapAnswer::Cast(Ok(entries)) => entries.iter().for_each(|x| out.float(*x)),
+        MapAnswer::Knotted(Ok(knots)) => knots.s.iter().chain(&knots.t).for_each(|x| out.float(*x)),
+        MapAnswer::Evaluated(Ok(value)) => {
+            value.position.iter().for_each(|x| out.float(*x));
+            out.float(value.weight);
+        }
+        _ => {}
+    }
+}
+
+/// A map's bytes at the end of a list: its points, then for each point made whether it is listed, then whether knots are kept.
+pub fn put_map(out: &mut Bytes, map: &reading::Map) {
+    put_points(out, &map.store.points);
+    for point in 0..map.store.made() {
+        out.byte(map.listed.contains(&(point as u8)) as u8);
+    }
+    out.byte(map.kept.is_some() as u8);
+}
