@@ -1,0 +1,31 @@
+-- What the formula comes to by the outcome of its tests: each law follows the tests down to its case.
+use mathlib.Core.Path.{_≡_}
+use mathlib.Core.Bool.{true, false}
+use Prim.Native.Nat.{ℕ}
+use Rattle.basis.specs.Formula.{Arithmetic, formula, firstSegment, secondSegment, thirdSegment, lastSegment}
+
+module _ {F : Type 0} (arithmetic : Arithmetic F) (u : F) (a : ℕ → F) where
+  pub below-knots : arithmetic .lt u (a 0) ≡ true → formula arithmetic u a ≡ arithmetic .zero
+  unfolding formula
+  below-knots outside = rw (outside, formula)
+
+  pub above-knots : arithmetic .lt u (a 0) ≡ false → arithmetic .le (a 4) u ≡ true → formula arithmetic u a ≡ arithmetic .zero
+  unfolding formula
+  above-knots start outside = rw (start, outside, formula)
+
+  module _ (start : arithmetic .lt u (a 0) ≡ false) (end : arithmetic .le (a 4) u ≡ false) where
+    pub in-first : arithmetic .lt u (a 1) ≡ true → formula arithmetic u a ≡ firstSegment arithmetic u a
+    unfolding formula
+    in-first second = rw (start, end, second, formula)
+
+    pub in-second : arithmetic .lt u (a 1) ≡ false → arithmetic .lt u (a 2) ≡ true → formula arithmetic u a ≡ secondSegment arithmetic u a
+    unfolding formula
+    in-second second third = rw (start, end, second, third, formula)
+
+    pub in-third : arithmetic .lt u (a 1) ≡ false → arithmetic .lt u (a 2) ≡ false → arithmetic .lt u (a 3) ≡ true → formula arithmetic u a ≡ thirdSegment arithmetic u a
+    unfolding formula
+    in-third second third fourth = rw (start, end, second, third, fourth, formula)
+
+    pub in-last : arithmetic .lt u (a 1) ≡ false → arithmetic .lt u (a 2) ≡ false → arithmetic .lt u (a 3) ≡ false → formula arithmetic u a ≡ lastSegment arithmetic u a
+    unfolding formula
+    in-last second third fourth = rw (start, end, second, third, fourth, formula)
