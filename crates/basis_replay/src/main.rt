@@ -1,19 +1,16 @@
 // Replays the stored cases of the basis function, and says how many came out right. data/cases holds 56 bytes for each case: u, the five
 // knots and the result, as specs/Case.antt says.
-use libc::STDOUT_FILENO;
 ghost use mathlib.Core.Path.{_≡_};
 ghost use Rattle.basis_replay.specs.Case.{isRight, knotsOf};
+use replay::Outcome;
+use replay::Tally;
+use replay::count_outcome;
+use replay::is_end;
+use replay::outcome_of;
 
 const CASE_BYTES: usize = 56;
 // More cases than the file holds: the loop ends with the file.
 const MOST_CASES: u64 = 1000000;
-
-// What came of one case.
-enum Outcome {
-    Right,
-    Wrong,
-    End,
-}
 
 // The case's knots.
 fn knots_of(case: &[u8]) -> [f64; 5]
@@ -41,42 +38,27 @@ fn next_outcome(descriptor: i32) -> Outcome {
     if io::read_full(descriptor, &mut case) < CASE_BYTES {
         return Outcome::End;
     }
-    if is_right(&case) {
-        return Outcome::Right;
-    }
-    Outcome::Wrong
+    outcome_of(is_right(&case))
 }
 
-fn replay(descriptor: i32) {
-    let mut right: u64 = 0;
-    let mut wrong: u64 = 0;
+fn replayed(descriptor: i32) -> Tally {
+    let mut tally = Tally { right: 0, wrong: 0 };
     let mut left = MOST_CASES;
     while 0 < left {
-        match next_outcome(descriptor) {
-            Outcome::Right => right += 1,
-            Outcome::Wrong => wrong += 1,
-            Outcome::End => break,
+        let outcome = next_outcome(descriptor);
+        if is_end(outcome) {
+            return tally;
         }
+        tally = count_outcome(tally, outcome);
         left -= 1;
     }
-    report(right, wrong);
-}
-
-fn report(right: u64, wrong: u64) {
-    io::write_all(STDOUT_FILENO, b"right ");
-    io::print_decimal(STDOUT_FILENO, right);
-    io::write_all(STDOUT_FILENO, b" wrong ");
-    io::print_decimal(STDOUT_FILENO, wrong);
-    io::write_all(STDOUT_FILENO, b"\n");
+    tally
 }
 
 fn main() {
-    let path = b"cases";
-    let descriptor = os::open_read(path);
-    if descriptor < 0 {
-        os::fail(path);
-        return;
+    let descriptor = replay::open_cases();
+    if 0 <= descriptor {
+        replay::report(replayed(descriptor));
+        libc::close(descriptor);
     }
-    replay(descriptor);
-    libc::close(descriptor);
 }

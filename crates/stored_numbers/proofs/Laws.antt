@@ -34,3 +34,8 @@ rest-whole bytes count = take-all (length bytes - count) (drop count bytes) (let
 -- past the end nothing stands
 pub rest-none : (bytes : List ℕ) (count : ℕ) → length bytes ≤ count → drop (length bytes) bytes ≡ drop count bytes
 rest-none bytes count past = drop-length bytes ∙ sym (drop-of-length-le bytes {i = count} past)
+
+-- a number of two bytes
+pub number-of-two : (bytes : List ℕ) (at : ℕ) → numberAt 2 bytes at ≡ getD bytes (at + 0) 0 * 256 + getD bytes (at + 1) 0
+unfolding numberAt
+number-of-two bytes at = omega (arith, number-more 1 bytes at, number-more 0 bytes at)

@@ -1,6 +1,6 @@
 // Numbers in stored bytes, the most significant byte first. A byte past the end counts as 0, so that every place can be read.
 ghost use mathlib.Core.Path.{_≡_};
-ghost use Prim.Native.Nat.{_+_};
+ghost use Prim.Native.Nat.{_+_, _<_};
 ghost use lib.ListN.{drop};
 ghost use Rattle.stored_numbers.specs.BigEndian.{byteAt, numberAt, floatAt};
 
@@ -21,6 +21,20 @@ fn byte_after(bytes: &[u8], at: usize, offset: usize) -> u8
         }
     }
     0
+}
+
+fn wide(byte: u8) -> usize
+    ensures { λ r. ⌜ r ≡ byte ⌝ }
+{
+    byte as usize
+}
+
+// The number in the two bytes from a place on.
+pub fn pair_at(bytes: &[u8], at: usize) -> usize
+    ensures value { λ r. ⌜ r ≡ numberAt 2 (now (bytes .entry)) at ⌝ }
+    ensures bound { λ r. ⌜ r < 65536 ⌝ }
+{
+    wide(byte_after(bytes, at, 0)) * 256 + wide(byte_after(bytes, at, 1))
 }
 
 // The number in the eight bytes from a place on.

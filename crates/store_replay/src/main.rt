@@ -1,0 +1,88 @@
+// Replays the stored lists of direct calls on a store, and says how many came out right. oracle/README.md has the format of data/cases.
+ghost use mathlib.Core.Path.{_≡_};
+ghost use Rattle.store_replay.specs.List.{isRight};
+use replay::Outcome;
+use replay::Tally;
+use replay::count_outcome;
+use replay::is_end;
+use replay::outcome_of;
+use store::store::empty_store;
+use stored_calls::call::replay_call;
+use stored_calls::points::both;
+use stored_calls::points::store_is_right;
+use stored_numbers::after;
+use stored_numbers::byte_at;
+use stored_numbers::pair_at;
+
+// More lists than the file holds: the loop ends with the file.
+const MOST_LISTS: u64 = 1000000;
+
+// Whether every call of a list answers what is stored, and the last leaves the store that is stored.
+fn is_right(list: &[u8]) -> bool
+    ensures { λ r. ⌜ r ≡ isRight (now (list .entry)) ⌝ }
+{
+    let mut store = empty_store();
+    let mut right = true;
+    let mut left = pair_at(list, 0);
+    let mut at: usize = 2;
+    while 0 < left {
+        let bytes = after(list, at);
+        let replayed = replay_call(byte_at(bytes, 0), bytes, store);
+        right = both(right, replayed.right);
+        at += replayed.bytes;
+        let next = replayed.store;
+        store = next;
+        left -= 1;
+    }
+    both(right, store_is_right(store, after(list, at)))
+}
+
+// Fills so many bytes of a buffer, or says that there are no more.
+fn fill(descriptor: i32, buffer: &mut [u8], bytes: usize) -> bool {
+    if bytes <= buffer.len() {
+        return io::read_full(descriptor, &mut buffer[0..bytes]) == bytes;
+    }
+    false
+}
+
+fn judged(buffer: &[u8], bytes: usize) -> Outcome {
+    if bytes <= buffer.len() {
+        return outcome_of(is_right(&buffer[0..bytes]));
+    }
+    Outcome::Wrong
+}
+
+fn next_outcome(descriptor: i32) -> Outcome {
+    let mut length = [0u8; 2];
+    let mut list = io::large_buffer();
+    if !fill(descriptor, &mut length, 2) {
+        return Outcome::End;
+    }
+    let bytes = pair_at(&length, 0);
+    if !fill(descriptor, &mut list, bytes) {
+        return Outcome::Wrong;
+    }
+    judged(&list, bytes)
+}
+
+fn replayed(descriptor: i32) -> Tally {
+    let mut tally = Tally { right: 0, wrong: 0 };
+    let mut left = MOST_LISTS;
+    while 0 < left {
+        let outcome = next_outcome(descriptor);
+        if is_end(outcome) {
+            return tally;
+        }
+        tally = count_outcome(tally, outcome);
+        left -= 1;
+    }
+    tally
+}
+
+fn main() {
+    let descriptor = replay::open_cases();
+    if 0 <= descriptor {
+        replay::report(replayed(descriptor));
+        libc::close(descriptor);
+    }
+}

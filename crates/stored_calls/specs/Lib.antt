@@ -1,0 +1,4 @@
+pub mod Points
+pub mod PointsLaws
+pub mod Call
+pub mod CallLaws
