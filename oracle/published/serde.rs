@@ -7,12 +7,15 @@ pub trait Deserializer<'de>: Sized {
 
 pub trait Deserialize<'de>: Sized {
     fn deserialize<D>(deserializer: D) -> Result<Self, D::Error>
-    where D: Deserializer<'de>;
+    where
+        D: Deserializer<'de>;
 }
 
 impl<'de> Deserialize<'de> for Vec<f64> {
     fn deserialize<D>(deserializer: D) -> Result<Self, D::Error>
-    where D: Deserializer<'de> {
+    where
+        D: Deserializer<'de>,
+    {
         deserializer.floats()
     }
 }

@@ -8,6 +8,10 @@ pub trait Tolerance {
 }
 
 impl Tolerance for f64 {
-    fn so_small(&self) -> bool { -TOLERANCE <= *self && *self <= TOLERANCE }
-    fn near(&self, other: &f64) -> bool { (*self - *other).so_small() }
+    fn so_small(&self) -> bool {
+        -TOLERANCE <= *self && *self <= TOLERANCE
+    }
+    fn near(&self, other: &f64) -> bool {
+        (*self - *other).so_small()
+    }
 }

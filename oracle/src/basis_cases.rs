@@ -98,7 +98,10 @@ pub fn write(seed: u64) {
         a.iter().for_each(|knot| out.float(*knot));
         out.float(answer);
     }
-    println!("answers: zero {}, positive {}, negative {}, infinite {}, NaN {}", kinds[0], kinds[1], kinds[2], kinds[3], kinds[4]);
+    println!(
+        "answers: zero {}, positive {}, negative {}, infinite {}, NaN {}",
+        kinds[0], kinds[1], kinds[2], kinds[3], kinds[4]
+    );
     out.write("crates/basis_replay/data/cases");
 }
 

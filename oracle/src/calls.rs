@@ -23,7 +23,9 @@ pub struct Answer {
     pub walk: Option<Walk>,
 }
 
-fn plain<T>(answer: Result<T, u8>) -> Answer { Answer { number: answer.err().unwrap_or(0), walk: None } }
+fn plain<T>(answer: Result<T, u8>) -> Answer {
+    Answer { number: answer.err().unwrap_or(0), walk: None }
+}
 
 /// The two stores, the reading's and the published one.
 #[derive(Default)]
@@ -43,7 +45,9 @@ impl Both {
         answer
     }
 
-    pub fn assert_same(&self) { assert_same_points(&self.reading.points, &self.original.read()) }
+    pub fn assert_same(&self) {
+        assert_same_points(&self.reading.points, &self.original.read())
+    }
 }
 
 /// Makes the call on the published side, whose answer must be the one given.
@@ -57,7 +61,9 @@ pub fn hold_against(store: &mut original::Store, call: Call, answer: Answer) {
         Call::RemoveConnection(point, d) => store.remove_connection(point, d),
         Call::RemoveEdgeCondition(point, d) => store.remove_edge_condition(point, d),
         Call::SetEdgeConWeight(point, d, weight) => store.set_edge_con_weight(point, d, weight),
-        Call::SetKnotCoordinates(point, horizontal, vertical) => store.set_knot_coordinates(point, horizontal, vertical),
+        Call::SetKnotCoordinates(point, horizontal, vertical) => {
+            store.set_knot_coordinates(point, horizontal, vertical)
+        }
         Call::Navigate(start, travel, watch) => {
             let found = store.navigate_until_con(start, travel, watch);
             let expected = answer.walk.map(|walk| (walk.point, bits_of(walk.sum)));
@@ -76,7 +82,9 @@ pub fn perform(store: &mut reading::Store, call: Call) -> Answer {
         Call::RemoveConnection(point, d) => plain(store.remove_connection(point, d)),
         Call::RemoveEdgeCondition(point, d) => plain(store.remove_edge_condition(point, d)),
         Call::SetEdgeConWeight(point, d, weight) => plain(store.set_edge_con_weight(point, d, weight)),
-        Call::SetKnotCoordinates(point, horizontal, vertical) => plain(store.set_knot_coordinates(point, horizontal, vertical)),
+        Call::SetKnotCoordinates(point, horizontal, vertical) => {
+            plain(store.set_knot_coordinates(point, horizontal, vertical))
+        }
         Call::Navigate(start, travel, watch) => match store.navigate_until_con(start, travel, watch) {
             Ok(walk) => Answer { number: 0, walk: Some(walk) },
             Err(number) => Answer { number, walk: None },

@@ -26,7 +26,8 @@ impl Tally {
 
     pub fn print(&self) {
         for (word, row) in WORDS.iter().zip(self.0) {
-            let counts: Vec<String> = row.iter().enumerate().filter(|(_, n)| **n > 0).map(|(number, n)| format!("{number}: {n}")).collect();
+            let counts: Vec<String> =
+                row.iter().enumerate().filter(|(_, n)| **n > 0).map(|(number, n)| format!("{number}: {n}")).collect();
             println!("{word:12} {}", counts.join(", "));
         }
     }

@@ -3,7 +3,7 @@
 use crate::calls::Call;
 use crate::map_calls::{MapAnswer, MapCall, Maps};
 use crate::random::Random;
-use crate::reading::CAPACITY;
+use crate::reading::{CAPACITY, TORN};
 
 /// Edits (point, direction, ratio) after which rings are near.
 pub const RING_PREFIXES: [&[(u8, usize, f64)]; 5] = [
@@ -41,10 +41,16 @@ fn coordinate(random: &mut Random) -> f64 {
     if random.one_in(60) { random.of(&[f64::INFINITY, f64::NAN, -3.5, 1e300, -0.0]) } else { random.unit() }
 }
 
-pub fn position(random: &mut Random) -> [f64; 3] { std::array::from_fn(|_| coordinate(random)) }
+pub fn position(random: &mut Random) -> [f64; 3] {
+    std::array::from_fn(|_| coordinate(random))
+}
 
 fn border(random: &mut Random) -> f64 {
-    if random.one_in(3) { random.of(&[0.0, -0.0, 0.25, 0.5, 2.0, 1e-7, 1e-6, f64::INFINITY, -1.0, -0.25, f64::NAN]) } else { 1.0 }
+    if random.one_in(3) {
+        random.of(&[0.0, -0.0, 0.25, 0.5, 2.0, 1e-7, 1e-6, f64::INFINITY, -1.0, -0.25, f64::NAN])
+    } else {
+        1.0
+    }
 }
 
 /// How the ratios of one map are drawn.
@@ -63,7 +69,9 @@ fn ratio(random: &mut Random, ratios: Ratios) -> f64 {
     match ratios {
         Ratios::Quarters => random.of(&[0.0, 0.25, 0.5, 0.5, 0.75, 1.0]),
         Ratios::Ends => random.of(&[0.0, -0.0, 1.0, 0.5]),
-        Ratios::NearMisses => random.of(&[0.0, 1e-6, 5e-7, 1e-7, 0.25, 0.250001, 0.5, 0.500001, 0.4999995, 0.500002, 0.75, 0.999999, 0.9999999, 1.0]),
+        Ratios::NearMisses => random.of(&[
+            0.0, 1e-6, 5e-7, 1e-7, 0.25, 0.250001, 0.5, 0.500001, 0.4999995, 0.500002, 0.75, 0.999999, 0.9999999, 1.0,
+        ]),
         Ratios::Any => random.unit(),
     }
 }
@@ -119,7 +127,7 @@ pub struct Plan {
     pub direct_calls: bool,
 }
 
-/// A map after random edits, evaluated in between.
+/// A map after random edits, evaluated in between and most often after torn ones, which keep the knots.
 pub fn map(random: &mut Random, plan: Plan) -> MapList {
     let corners = std::array::from_fn(|_| position(random));
     let mut list = MapList::new(corners, border(random));
@@ -130,12 +138,19 @@ pub fn map(random: &mut Random, plan: Plan) -> MapList {
             list.insert(random, con, direction, ratio);
         }
     }
-    let ratios = random.of(&[Ratios::Quarters, Ratios::Quarters, Ratios::Ends, Ratios::NearMisses, Ratios::NearMisses, Ratios::Any]);
+    let ratios = random.of(&[
+        Ratios::Quarters,
+        Ratios::Quarters,
+        Ratios::Ends,
+        Ratios::NearMisses,
+        Ratios::NearMisses,
+        Ratios::Any,
+    ]);
     for _ in 0..plan.edits {
         let (con, direction) = place(random, &list.maps);
         let ratio = ratio(random, ratios);
-        list.insert(random, con, direction, ratio);
-        if plan.evaluations && random.one_in(8) {
+        let torn = list.insert(random, con, direction, ratio).number() == TORN;
+        if plan.evaluations && (random.one_in(8) || torn && random.one_in(2)) {
             list.call(evaluation(random));
         }
         if plan.direct_calls && random.one_in(3) {

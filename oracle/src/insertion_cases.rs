@@ -4,16 +4,96 @@ use crate::calls::Call;
 use crate::draw::{MapList, Plan, RING_PREFIXES, evaluation, full_map, map};
 use crate::map_calls::{MapCall, put_map, put_map_answer, put_map_call};
 use crate::random::Random;
-use crate::reading::{LEFT, RIGHT, UP};
+use crate::reading::{DOWN, LEFT, RIGHT, UP};
 
 const ALL_RAYS: usize = 24;
 const SOME_RAYS: usize = 260;
 const DIRECT_CALLS: usize = 60;
 const FULL_STORES: usize = 4;
+const EVERY_LENGTH: [usize; 6] = [0, 1, 2, 3, 4, 5];
 
 const SQUARE: [[f64; 3]; 4] = [[0.0, 0.0, 0.0], [1.0, 0.0, 0.0], [1.0, 1.0, 1.0], [0.0, 1.0, 1.0]];
 
-fn square() -> MapList { MapList::new(SQUARE, 1.0) }
+/// Edits after which a cap decides: the search and the approach of a ray that end with the last move allowed, or need one more.
+const AT_THE_CAPS: [&[(u8, usize, f64)]; 5] = [
+    &[
+        (3, 1, 3e-7),
+        (0, 1, 0.0),
+        (4, 3, 0.5),
+        (1, 3, 1.0),
+        (6, 2, 0.25),
+        (4, 2, 0.25),
+        (7, 3, 3e-7),
+        (6, 1, 9e-7),
+        (3, 1, 5e-7),
+    ],
+    &[(3, 1, 5e-7), (0, 1, 0.0), (4, 3, 0.5), (1, 3, 1.0), (6, 2, 0.25), (4, 2, 0.25), (4, 3, 0.0), (0, 1, 2e-6)],
+    &[
+        (2, 2, 0.25),
+        (0, 0, 0.75),
+        (2, 2, 0.9999991),
+        (0, 0, 0.9999999),
+        (7, 2, 0.5),
+        (7, 1, 0.5),
+        (4, 3, 0.5),
+        (10, 0, 1e-7),
+        (2, 2, 0.99999),
+        (5, 2, 5e-6),
+    ],
+    &[
+        (2, 2, 0.25),
+        (0, 0, 0.75),
+        (2, 2, 1.0),
+        (0, 0, 0.9999999),
+        (7, 2, 2e-6),
+        (7, 1, 0.5),
+        (4, 3, 0.5),
+        (10, 1, 5e-6),
+        (11, 3, 0.5),
+        (8, 0, 1.0),
+    ],
+    &[
+        (2, 2, 0.25),
+        (0, 0, 0.75),
+        (2, 2, 0.9999991),
+        (0, 0, 0.9999999),
+        (7, 2, 0.5),
+        (7, 1, 0.5),
+        (4, 3, 0.5),
+        (4, 2, 9e-7),
+        (7, 2, 2e-6),
+        (2, 2, 0.999995),
+    ],
+];
+
+/// Edits after which a ray goes around a second opening and is then nearer to a point than it would be otherwise.
+const AROUND_TWICE: &[(u8, usize, f64)] = &[
+    (1, 0, 0.25),
+    (2, 3, 0.5),
+    (1, 3, 0.5),
+    (3, 1, 0.25),
+    (6, 0, 0.25),
+    (6, 3, 0.75),
+    (7, 3, 0.5),
+    (7, 3, 0.5),
+    (4, 0, 0.5),
+    (3, 2, 0.75),
+    (1, 3, 0.5),
+    (0, 0, 0.25),
+    (14, 1, 0.5),
+    (9, 3, 0.25),
+    (4, 3, 0.5),
+    (11, 3, 0.75),
+    (15, 0, 0.25),
+    (11, 2, 0.75),
+    (18, 1, 0.25),
+    (21, 3, 0.75),
+    (21, 2, 0.75),
+];
+
+fn square() -> MapList {
+    MapList::new(SQUARE, 1.0)
+}
 
 /// The readings that the description of the behaviour works out, on the square map with border 1.0.
 fn worked_examples(random: &mut Random) -> Vec<MapList> {
@@ -50,30 +130,30 @@ fn worked_examples(random: &mut Random) -> Vec<MapList> {
     let mut infinite = square();
     infinite.call(MapCall::Direct(Call::RemoveConnection(0, RIGHT)));
     infinite.call(MapCall::Direct(Call::Connect(0, 1, RIGHT, f64::INFINITY)));
-    insert(&mut infinite, random, &[(0, RIGHT, 0.5)]);
+    insert(&mut infinite, random, &[(0, RIGHT, 0.5), (1, LEFT, 0.0)]);
+    infinite.call(MapCall::Direct(Call::RemoveConnection(3, DOWN)));
+    infinite.call(MapCall::Direct(Call::Connect(3, 0, DOWN, f64::NAN)));
+    insert(&mut infinite, random, &[(3, DOWN, 0.5), (0, UP, 1.0), (2, LEFT, 0.25)]);
     infinite.call(MapCall::Evaluate { s: 0.5, t: 0.5 });
     vec![square(), fresh, at_one, torn, inferred, infinite]
 }
 
-/// The edits after which rings are near, with what follows from them.
-fn rings(random: &mut Random) -> Vec<MapList> {
-    let mut lists = Vec::new();
-    for prefix in RING_PREFIXES {
-        let mut list = square();
-        for &(con, direction, ratio) in prefix {
-            list.insert(random, con, direction, ratio);
-        }
-        list.call(MapCall::Evaluate { s: 0.5, t: 0.5 });
-        all_rays(&mut list);
-        lists.push(list);
+/// A map after edits, evaluated, with rays of some lengths from every point and side.
+fn edited(random: &mut Random, edits: &[(u8, usize, f64)], lengths: &[usize]) -> MapList {
+    let mut list = square();
+    for &(con, direction, ratio) in edits {
+        list.insert(random, con, direction, ratio);
     }
-    lists
+    list.call(MapCall::Evaluate { s: 0.5, t: 0.5 });
+    rays(&mut list, lengths);
+    list
 }
 
-fn all_rays(list: &mut MapList) {
+/// Rays of some lengths from every point and side, and the knots of every point.
+fn rays(list: &mut MapList, lengths: &[usize]) {
     for point in 0..list.maps.made() as u8 {
         for direction in 0..4 {
-            for count in 0..=5 {
+            for &count in lengths {
                 list.call(MapCall::Ray { point, direction, count });
             }
         }
@@ -111,13 +191,14 @@ fn put(out: &mut Bytes, list: &MapList) {
 pub fn write(seed: u64) {
     let mut random = Random::new(seed);
     let mut lists = worked_examples(&mut random);
-    lists.extend(rings(&mut random));
+    lists.extend(RING_PREFIXES.iter().map(|edits| edited(&mut random, edits, &EVERY_LENGTH)));
+    lists.extend(AT_THE_CAPS.iter().chain([&AROUND_TWICE]).map(|edits| edited(&mut random, edits, &[2, 5])));
     for place in 0..ALL_RAYS + SOME_RAYS + DIRECT_CALLS {
         let direct_calls = place >= ALL_RAYS + SOME_RAYS;
         let edits = 1 + if place < ALL_RAYS { place % 9 } else { random.below(28) };
         let mut list = map(&mut random, Plan { edits, evaluations: true, direct_calls });
         if place < ALL_RAYS {
-            all_rays(&mut list);
+            rays(&mut list, &EVERY_LENGTH);
         } else {
             some_rays(&mut list, &mut random);
         }
@@ -138,6 +219,10 @@ fn print_table(lists: &[MapList]) {
     let mut tally = crate::compare::Tally::default();
     lists.iter().flat_map(|list| &list.calls).for_each(|(call, answer)| tally.count(*call, answer));
     let alone = lists.iter().filter(|list| !list.maps.followed).count();
-    println!("{} lists, {} calls; {alone} lists hold an insertion torn by a ring, after which the reading alone answers", lists.len(), lists.iter().map(|list| list.calls.len()).sum::<usize>());
+    println!(
+        "{} lists, {} calls; {alone} lists hold an insertion torn by a ring, after which the reading alone answers",
+        lists.len(),
+        lists.iter().map(|list| list.calls.len()).sum::<usize>()
+    );
     tally.print();
 }

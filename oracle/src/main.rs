@@ -3,6 +3,7 @@ mod basis_cases;
 mod bytes;
 mod calls;
 mod compare;
+mod differences;
 mod draw;
 mod insertion_cases;
 mod map_calls;
@@ -25,6 +26,8 @@ fn main() {
             let seed = words.get(2).map_or(SEED, |word| word.parse().expect("a seed"));
             compare::run(seed, maps)
         }
-        _ => println!("words: basis store insertion compare"),
+        Some("differences") => differences::show(),
+        Some("published-side") => differences::published_side(words[1].parse().expect("the number of an example")),
+        _ => println!("words: basis store insertion compare differences"),
     }
 }

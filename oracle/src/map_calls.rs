@@ -52,7 +52,9 @@ pub struct Maps {
     pub border: f64,
 }
 
-fn bits<const N: usize>(floats: [f64; N]) -> [u64; N] { floats.map(bits_of) }
+fn bits<const N: usize>(floats: [f64; N]) -> [u64; N] {
+    floats.map(bits_of)
+}
 
 impl Maps {
     pub fn new(corners: [[f64; 3]; 4], border: f64) -> Maps {
@@ -66,11 +68,15 @@ impl Maps {
         }
     }
 
-    pub fn made(&self) -> usize { self.reading.store.made() }
+    pub fn made(&self) -> usize {
+        self.reading.store.made()
+    }
 
     pub fn make(&mut self, call: MapCall) -> MapAnswer {
         match call {
-            MapCall::Insert { con, direction, ratio, position } => MapAnswer::Inserted(self.insert(con, direction, ratio, position)),
+            MapCall::Insert { con, direction, ratio, position } => {
+                MapAnswer::Inserted(self.insert(con, direction, ratio, position))
+            }
             MapCall::Ray { point, direction, count } => MapAnswer::Cast(self.ray(point, direction, count)),
             MapCall::Knots { point } => MapAnswer::Knotted(self.knots(point)),
             MapCall::Evaluate { s, t } => MapAnswer::Evaluated(self.evaluate(s, t)),
@@ -110,7 +116,9 @@ impl Maps {
         let answer = self.reading.store.cast_ray(point, d, count);
         if self.followed && !matches!(answer, Err(RING | NO_POINT)) {
             let published = self.original.store.cast_ray(point, d, count);
-            let plain = |ray: &Result<Vec<f64>, u8>| ray.clone().map(|entries| entries.into_iter().map(bits_of).collect::<Vec<_>>());
+            let plain = |ray: &Result<Vec<f64>, u8>| {
+                ray.clone().map(|entries| entries.into_iter().map(bits_of).collect::<Vec<_>>())
+            };
             assert_eq!(plain(&published), plain(&answer), "ray from {point} {d} of {count}");
         }
         answer
@@ -178,7 +186,9 @@ pub fn put_map_call(out: &mut Bytes, call: MapCall) {
             out.float(ratio);
             position.iter().for_each(|x| out.float(*x));
         }
-        MapCall::Ray { point, direction, count } => [1, point, direction as u8, count as u8].iter().for_each(|n| out.byte(*n)),
+        MapCall::Ray { point, direction, count } => {
+            [1, point, direction as u8, count as u8].iter().for_each(|n| out.byte(*n))
+        }
         MapCall::Knots { point } => [2, point].iter().for_each(|n| out.byte(*n)),
         MapCall::Evaluate { s, t } => {
             out.byte(3);

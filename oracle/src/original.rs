@@ -13,7 +13,9 @@ pub fn direction(d: usize) -> TmeshDirection {
     [TmeshDirection::Up, TmeshDirection::Right, TmeshDirection::Down, TmeshDirection::Left][d]
 }
 
-fn number(error: Error) -> u8 { error.number().unwrap_or_else(|| panic!("an error without a number: {error}")) }
+fn number(error: Error) -> u8 {
+    error.number().unwrap_or_else(|| panic!("an error without a number: {error}"))
+}
 
 /// The points, in the order in which they were made.
 #[derive(Default)]
@@ -27,7 +29,9 @@ impl Store {
         place.expect("every point that can be reached was made") as u8
     }
 
-    fn shared(&self, point: u8) -> Shared { Arc::clone(&self.points[point as usize]) }
+    fn shared(&self, point: u8) -> Shared {
+        Arc::clone(&self.points[point as usize])
+    }
 
     pub fn make(&mut self, weight: f64) {
         self.points.push(Arc::new(RwLock::new(TmeshControlPoint::new(Position([0.0; 3]), weight))))
@@ -135,7 +139,9 @@ impl Map {
         self.mesh.subs(s, t).map(|position| position.0).map_err(number)
     }
 
-    pub fn keeps_knots(&self) -> bool { self.mesh.keeps_knots() }
+    pub fn keeps_knots(&self) -> bool {
+        self.mesh.keeps_knots()
+    }
 
     pub fn listed(&self) -> Vec<u8> {
         self.mesh.control_points().iter().map(|point| self.store.number_of(point)).collect()

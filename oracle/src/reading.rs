@@ -30,9 +30,15 @@ pub const RIGHT: usize = 1;
 pub const DOWN: usize = 2;
 pub const LEFT: usize = 3;
 
-pub fn clockwise(d: usize) -> usize { (d + 1) % 4 }
-pub fn opposite(d: usize) -> usize { (d + 2) % 4 }
-pub fn anticlockwise(d: usize) -> usize { (d + 3) % 4 }
+pub fn clockwise(d: usize) -> usize {
+    (d + 1) % 4
+}
+pub fn opposite(d: usize) -> usize {
+    (d + 2) % 4
+}
+pub fn anticlockwise(d: usize) -> usize {
+    (d + 3) % 4
+}
 
 #[derive(Clone, Copy, Debug)]
 pub enum Side {
@@ -42,9 +48,15 @@ pub enum Side {
 }
 
 impl Side {
-    pub fn is_link(self) -> bool { matches!(self, Side::Link(..)) }
-    pub fn is_border(self) -> bool { matches!(self, Side::Border(_)) }
-    pub fn is_opening(self) -> bool { matches!(self, Side::Opening) }
+    pub fn is_link(self) -> bool {
+        matches!(self, Side::Link(..))
+    }
+    pub fn is_border(self) -> bool {
+        matches!(self, Side::Border(_))
+    }
+    pub fn is_opening(self) -> bool {
+        matches!(self, Side::Opening)
+    }
 }
 
 #[derive(Clone, Copy, Debug)]
@@ -69,13 +81,21 @@ pub struct Store {
 }
 
 impl Store {
-    pub fn made(&self) -> usize { self.points.len() }
+    pub fn made(&self) -> usize {
+        self.points.len()
+    }
 
-    fn holds(&self, n: u8) -> Refused<()> { if (n as usize) < self.made() { Ok(()) } else { Err(NO_POINT) } }
+    fn holds(&self, n: u8) -> Refused<()> {
+        if (n as usize) < self.made() { Ok(()) } else { Err(NO_POINT) }
+    }
 
-    pub fn side(&self, n: u8, d: usize) -> Side { self.points[n as usize].sides[d] }
+    pub fn side(&self, n: u8, d: usize) -> Side {
+        self.points[n as usize].sides[d]
+    }
 
-    fn put(&mut self, n: u8, d: usize, side: Side) { self.points[n as usize].sides[d] = side }
+    fn put(&mut self, n: u8, d: usize, side: Side) {
+        self.points[n as usize].sides[d] = side
+    }
 
     /// A point made alone: four borders of one weight, coordinates (−1, −1).
     pub fn make(&mut self, weight: f64) -> Refused<u8> {
@@ -413,7 +433,8 @@ impl Map {
     /// Builds the knots of all listed points, unless some are kept.
     pub fn generate_knot_vectors(&mut self) -> Refused<()> {
         if self.kept.is_none() {
-            let all: Refused<Vec<Knots>> = self.listed.iter().map(|&point| self.store.point_knot_vectors(point)).collect();
+            let all: Refused<Vec<Knots>> =
+                self.listed.iter().map(|&point| self.store.point_knot_vectors(point)).collect();
             self.kept = Some(all?);
         }
         Ok(())

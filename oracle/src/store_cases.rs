@@ -16,14 +16,18 @@ struct List {
 }
 
 impl List {
-    fn new() -> List { List { both: Both::default(), calls: Vec::new() } }
+    fn new() -> List {
+        List { both: Both::default(), calls: Vec::new() }
+    }
 
     fn call(&mut self, call: Call) {
         let answer = self.both.make(call);
         self.calls.push((call, answer));
     }
 
-    fn made(&self) -> usize { self.both.reading.made() }
+    fn made(&self) -> usize {
+        self.both.reading.made()
+    }
 
     /// Opens a side, if it is a border.
     fn open(&mut self, point: u8, d: usize) {
@@ -73,7 +77,8 @@ fn any_call(random: &mut Random, list: &List) -> Call {
             let (point, d) = side_of_kind(random, list, Side::is_opening);
             let mut other = number(random, made);
             for _ in 0..8 {
-                if (other as usize) < made && other != point && list.both.reading.side(other, opposite(d)).is_opening() {
+                if (other as usize) < made && other != point && list.both.reading.side(other, opposite(d)).is_opening()
+                {
                     break;
                 }
                 other = number(random, made);
@@ -224,7 +229,15 @@ pub fn write(seed: u64) {
 }
 
 fn print_table(lists: &[List]) {
-    const WORDS: [&str; 7] = ["make", "connect", "remove_connection", "remove_edge_condition", "set_edge_con_weight", "set_knot_coordinates", "navigate_until_con"];
+    const WORDS: [&str; 7] = [
+        "make",
+        "connect",
+        "remove_connection",
+        "remove_edge_condition",
+        "set_edge_con_weight",
+        "set_knot_coordinates",
+        "navigate_until_con",
+    ];
     let mut table = [[0usize; 12]; 7];
     for (call, answer) in lists.iter().flat_map(|list| &list.calls) {
         let mut kind = Bytes::default();
@@ -233,7 +246,8 @@ fn print_table(lists: &[List]) {
     }
     println!("{} lists, {} calls; how often each answer occurs:", lists.len(), table.iter().flatten().sum::<usize>());
     for (word, row) in WORDS.iter().zip(table) {
-        let counts: Vec<String> = row.iter().enumerate().filter(|(_, n)| **n > 0).map(|(number, n)| format!("{number}: {n}")).collect();
+        let counts: Vec<String> =
+            row.iter().enumerate().filter(|(_, n)| **n > 0).map(|(number, n)| format!("{number}: {n}")).collect();
         println!("{word:24} {}", counts.join(", "));
     }
 }

@@ -79,7 +79,7 @@ fn kind_of(side: Side) -> u8
     }
 }
 
-fn linked_of(side: Side) -> u8
+pub fn linked_of(side: Side) -> u8
     ensures { λ r. ⌜ r ≡ linkedOf side ⌝ }
 {
     match side {
@@ -100,7 +100,7 @@ fn interval_of(side: Side) -> f64
 }
 
 // One side, at its place.
-fn put_side(
+pub fn put_side(
     kinds: &mut [u8; 512],
     numbers: &mut [u8; 512],
     intervals: &mut [f64; 512],

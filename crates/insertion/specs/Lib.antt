@@ -1,0 +1,4 @@
+pub mod Insert
+pub mod Points
+pub mod PlacingLaws
+pub mod InsertLaws

@@ -1,0 +1,76 @@
+// The checks before an insertion, in order.
+ghost use mathlib.Core.Path.{_≡_};
+ghost use Rattle.control_point.specs.declared.sides.SideAnswer.the-variants.{Is};
+ghost use Rattle.insertion.specs.Insert.{inUnit, checkedIntervals, checkedFacing, checked};
+ghost use Rattle.insertion.specs.Points.{madeSide};
+use control_point::refusal::Refusal;
+use control_point::small::so_small;
+use control_point::t_mesh_control_point::Side;
+use control_point::t_mesh_control_point::is_made;
+use control_point::t_mesh_control_point::side_refusal;
+
+pub enum Checked {
+    // The point at the other end of the link, and the interval.
+    Passed(u8, f64),
+    Refused(Refusal),
+}
+
+// From 0 to 1, and no NaN.
+fn in_unit(ratio: f64) -> bool
+    ensures { λ r. ⌜ r ≡ inUnit ratio ⌝ }
+{
+    0.0 <= ratio && ratio <= 1.0
+}
+
+fn check_intervals(closeness: f64, made: u8, other: u8, interval: f64, facing: f64) -> Checked
+    ensures { λ r. ⌜ r ≡ checkedIntervals closeness made other interval facing ⌝ }
+{
+    if !so_small(closeness, interval - facing) {
+        return Checked::Refused(Refusal::Interval);
+    }
+    if 128 <= made {
+        return Checked::Refused(Refusal::Full);
+    }
+    Checked::Passed(other, interval)
+}
+
+// The facing side of the other point.
+fn check_facing(closeness: f64, made: u8, other: u8, interval: f64, facing: Side) -> Checked
+    ensures { λ r. ⌜ r ≡ checkedFacing closeness made other interval (Is facing) ⌝ }
+{
+    match facing {
+        Side::Link(_, stored) => check_intervals(closeness, made, other, interval, stored),
+        Side::Border(weight) => check_intervals(closeness, made, other, interval, weight),
+        Side::Opening => Checked::Refused(Refusal::OpenSide),
+    }
+}
+
+// All checks, on con's side and the side that faces it, where these points are made.
+pub fn check(
+    closeness: f64,
+    ratio: f64,
+    listed: bool,
+    made: u8,
+    con: u8,
+    side: Side,
+    facing: Side,
+) -> Checked
+    ensures { λ r. ⌜ r ≡ checked closeness ratio listed made (madeSide made con side) (λ other. madeSide made other facing) ⌝ }
+{
+    if !in_unit(ratio) {
+        return Checked::Refused(Refusal::Ratio);
+    }
+    if !listed {
+        return Checked::Refused(Refusal::Foreign);
+    }
+    if !is_made(made, con) {
+        return Checked::Refused(Refusal::NoPoint);
+    }
+    let Side::Link(other, interval) = side else {
+        return Checked::Refused(side_refusal(side));
+    };
+    if !is_made(made, other) {
+        return Checked::Refused(Refusal::NoPoint);
+    }
+    check_facing(closeness, made, other, interval, facing)
+}

@@ -1,0 +1,2 @@
+// The search for an inferred link of a T-mesh.
+pub mod search;
