@@ -1,0 +1,4 @@
+pub mod Knots
+pub mod Evaluation
+pub mod KnotsLaws
+pub mod EvaluationLaws

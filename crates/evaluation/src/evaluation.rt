@@ -1,0 +1,129 @@
+// The surface at a place.
+ghost use mathlib.Core.Path.{_≡_};
+ghost use Rattle.control_point.specs.Small.{millionth};
+ghost use Rattle.evaluation.specs.Evaluation.{evaluationNumber, shareBy, answerBy, subsOf, weighty, setPoint};
+use crate::knots::generate_knot_vectors;
+use basis::basis_function;
+use control_point::refusal::Outcome;
+use control_point::refusal::Refusal;
+use ray::knots::PointKnots;
+use t_mesh::t_mesh::Position;
+use t_mesh::t_mesh::Tmesh;
+
+// A position with its total weight.
+pub struct Evaluation {
+    pub x: f64,
+    pub y: f64,
+    pub z: f64,
+    pub weight: f64,
+}
+
+pub enum EvaluationAnswer {
+    Is(Evaluation),
+    Refused(Refusal),
+}
+
+impl EvaluationAnswer {
+    // Its answer number, 0 where there is a value.
+    pub fn number(self) -> u8
+        ensures { λ r. ⌜ r ≡ evaluationNumber self ⌝ }
+    {
+        match self {
+            EvaluationAnswer::Is(_) => 0,
+            EvaluationAnswer::Refused(refusal) => refusal.number(),
+        }
+    }
+}
+
+// What an evaluation answers, and the map after it.
+pub struct Evaluated {
+    pub answer: EvaluationAnswer,
+    pub map: Tmesh,
+}
+
+// A point's weight, and its position times that.
+struct Share {
+    x: f64,
+    y: f64,
+    z: f64,
+    weight: f64,
+}
+
+fn share_of(knots: PointKnots, position: Position, s: f64, t: f64) -> Share
+    ensures { λ r. ⌜ r ≡ shareBy knots position s t ⌝ }
+{
+    let across = knots.s;
+    let upwards = knots.t;
+    let weight = basis_function(s, across) * basis_function(t, upwards);
+    Share {
+        x: position.x * weight,
+        y: position.y * weight,
+        z: position.z * weight,
+        weight,
+    }
+}
+
+// The value, where the knots were built.
+fn answer_by(outcome: Outcome, value: Evaluation) -> EvaluationAnswer
+    ensures { λ r. ⌜ r ≡ answerBy outcome value ⌝ }
+{
+    match outcome {
+        Outcome::Done => EvaluationAnswer::Is(value),
+        Outcome::Refused(refusal) => EvaluationAnswer::Refused(refusal),
+    }
+}
+
+// At (s, t); knots are built only if none are kept. The loop stands where the map is, so that no map is copied for it.
+pub fn subs(mut map: Tmesh, s: f64, t: f64) -> Evaluated
+    ensures { λ r. ⌜ r ≡ subsOf millionth map s t ⌝ }
+{
+    let mut outcome = Outcome::Done;
+    if !map.kept {
+        let generated = generate_knot_vectors(map);
+        outcome = generated.outcome;
+        map = generated.map;
+    }
+    let listed = map.mesh.listed;
+    let positions = map.mesh.positions;
+    let mut x = 0.0;
+    let mut y = 0.0;
+    let mut z = 0.0;
+    let mut weight = 0.0;
+    let mut n: usize = 0;
+    while n < 128 {
+        if listed[n] {
+            let share = share_of(map.knots[n], positions[n], s, t);
+            x = x + share.x;
+            y = y + share.y;
+            z = z + share.z;
+            weight = weight + share.weight;
+        }
+        n += 1;
+    }
+    let value = Evaluation {
+        x: x / weight,
+        y: y / weight,
+        z: z / weight,
+        weight,
+    };
+    let answer = answer_by(outcome, value);
+    Evaluated { answer, map }
+}
+
+// Whether the weight is positive and finite.
+fn is_weighty(value: Evaluation) -> bool
+    ensures { λ r. ⌜ r ≡ weighty value ⌝ }
+{
+    0.0 < value.weight && value.weight < 1.0 / 0.0
+}
+
+// The value as a set-point, refused unless its weight is positive and finite.
+pub fn set_point(value: Evaluation) -> EvaluationAnswer
+    ensures { λ r. ⌜ r ≡ setPoint value ⌝ }
+{
+    if is_weighty(value) {
+        EvaluationAnswer::Is(value)
+    } else {
+        EvaluationAnswer::Refused(Refusal::NoWeight)
+    }
+}

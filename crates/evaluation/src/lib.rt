@@ -1,0 +1,3 @@
+// Evaluation of a map: the knots of its listed points, the surface at a place, and the set-point.
+pub mod evaluation;
+pub mod knots;

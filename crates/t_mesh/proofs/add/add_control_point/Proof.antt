@@ -1,0 +1,37 @@
+-- `add_control_point` meets its contract: it is an insertion into the mesh, and its answer says whether kept knots are still kept.
+use borrow.Author.Needs.{needs}
+use mathlib.Core.Path.{_∙_, ap}
+use lib.Ieee.{Float}
+use Rattle.t_mesh.specs.Insertion.{keptAfter, insertIntoMesh, addControlPoint}
+use Rattle.t_mesh.specs.declared.t_mesh.Tmesh.{Tmesh}
+use Rattle.t_mesh.specs.declared.add.Added.{Added}
+use Rattle.t_mesh.specs.declared.add.InsertedMesh.{InsertedMesh}
+use Rattle.t_mesh.proofs.add.add_control_point.Statement.{statement}
+use Rattle.t_mesh.proofs.add.add_control_point.Tie as tie
+
+closeness-requires : tie.Need-closeness-requires
+closeness-requires c κs = search needs
+
+insert-into-requires : tie.Need-insert-into-requires
+insert-into-requires c κs = search needs
+
+kept-after-requires : tie.Need-kept-after-requires
+kept-after-requires c κs = search needs
+
+abbrev mapWith : Tmesh → InsertedMesh → Added
+mapWith map inserted =
+    record { answer = inserted .answer; map = record { mesh = inserted .mesh; kept = keptAfter (map .kept) (inserted .answer); knots = map .knots } }
+
+returns : tie.Need-returns
+unfolding insertIntoMesh addControlPoint
+returns c =
+    let i = c .before .before in
+    let a = i .before .before .before .args in
+    rw (c .kept-after .ensures)
+    (ap (mapWith (a .map))
+    (i .insert-into .ensures
+    ∙ ap (λ (e : Float). insertIntoMesh e (a .map .mesh) (a .con) (a .direction) (a .ratio) (a .position)) (i .before .closeness .ensures)))
+
+pub add-control-point-spec : {M : Type 1} → statement M
+add-control-point-spec =
+    tie.close (tie.spec closeness-requires insert-into-requires kept-after-requires returns)

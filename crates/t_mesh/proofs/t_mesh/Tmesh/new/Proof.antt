@@ -1,0 +1,51 @@
+-- `new` meets its contract: it is the definition, array by array.
+use Rattle.t_mesh.specs.Tmesh.{newTmesh}
+use borrow.Author.Needs.{needs}
+use Rattle.t_mesh.proofs.t_mesh.Tmesh.new.Statement.{statement}
+use Rattle.t_mesh.proofs.t_mesh.Tmesh.new.Tie as tie
+
+corner-store-requires : tie.Need-corner-store-requires
+corner-store-requires c κs = search needs
+
+array-set-from-positions : tie.Need-array-set-from-positions
+array-set-from-positions c = search needs
+
+array-set-from-positions-2 : tie.Need-array-set-from-positions-2
+array-set-from-positions-2 c = search needs
+
+array-set-from-positions-3 : tie.Need-array-set-from-positions-3
+array-set-from-positions-3 c = search needs
+
+array-set-from-positions-4 : tie.Need-array-set-from-positions-4
+array-set-from-positions-4 c = search needs
+
+array-write-listed : tie.Need-array-write-listed
+array-write-listed c = search needs
+
+array-write-listed-2 : tie.Need-array-write-listed-2
+array-write-listed-2 c = search needs
+
+array-write-listed-3 : tie.Need-array-write-listed-3
+array-write-listed-3 c = search needs
+
+array-write-listed-4 : tie.Need-array-write-listed-4
+array-write-listed-4 c = search needs
+
+returns : tie.Need-returns
+unfolding newTmesh
+returns c = rw (c .corner-store .ensures)
+
+pub new-spec : {M : Type 1} → statement M
+new-spec =
+    tie.close
+    (tie.spec
+    corner-store-requires
+    array-set-from-positions
+    array-set-from-positions-2
+    array-set-from-positions-3
+    array-set-from-positions-4
+    array-write-listed
+    array-write-listed-2
+    array-write-listed-3
+    array-write-listed-4
+    returns)

@@ -1,0 +1,71 @@
+-- Insertion into a map (`add_control_point`). Refused, the map is as it was. Torn, the mesh keeps all that was done, p stands there
+-- with its position and is not listed, and the kept knots are kept. Done, p is listed and the kept knots are dropped.
+use Prim.Native.Nat.{ℕ}
+use mathlib.Core.Bool.{Bool, true, false, cond}
+use lib.Ieee.{Float}
+use lib.ListN.{set}
+use Rattle.control_point.specs.declared.t_mesh_direction.TmeshDirection.{TmeshDirection}
+use Rattle.insertion.specs.Insert.{insertPoint}
+use Rattle.insertion.specs.declared.insertion.Inserted.{Inserted}
+use Rattle.insertion.specs.declared.insertion.InsertAnswer.{InsertAnswer}
+use Rattle.insertion.specs.declared.insertion.InsertAnswer.the-variants.{Done, Torn, Refused}
+use Rattle.store.specs.declared.store.Store.{Store}
+use Rattle.t_mesh.specs.Tmesh.{listedIn, isListed}
+use Rattle.t_mesh.specs.declared.t_mesh.Position.{Position}
+use Rattle.t_mesh.specs.declared.t_mesh.Mesh.{Mesh}
+use Rattle.t_mesh.specs.declared.t_mesh.Tmesh.{Tmesh}
+use Rattle.t_mesh.specs.declared.add.Added.{Added}
+use Rattle.t_mesh.specs.declared.add.InsertedMesh.{InsertedMesh}
+
+-- ---- what came of it
+-- whether it is done, and whether it is refused; torn is neither
+abbrev pub isDone : InsertAnswer → Bool
+isDone (Done opened inferred) = true
+isDone (Torn opened inferred met) = false
+isDone (Refused refusal) = false
+
+abbrev pub isRefused : InsertAnswer → Bool
+isRefused (Done opened inferred) = false
+isRefused (Torn opened inferred met) = false
+isRefused (Refused refusal) = true
+
+-- ---- the mesh
+-- with the store after an insertion, which made the point n at a position and lists it or not
+abbrev pub withPlaced : Mesh → Store → ℕ → Position → Bool → Mesh
+withPlaced mesh store n position listed =
+    record { store = store; positions = set (mesh .positions) n position; listed = set (mesh .listed) n listed }
+
+-- after an insertion, by its answer and the store that it left
+abbrev pub meshAfter : Mesh → Position → InsertAnswer → Store → Mesh
+meshAfter mesh position answer store =
+    cond (isRefused answer) mesh (withPlaced mesh store (mesh .store .made) position (isDone answer))
+
+-- the answer, and the mesh after it
+abbrev pub answeredMesh : Mesh → Position → Inserted → InsertedMesh
+answeredMesh mesh position inserted =
+    record { answer = inserted .answer; mesh = meshAfter mesh position (inserted .answer) (inserted .store) }
+
+-- an insertion, as far as it is the mesh's
+unfoldable pub insertIntoMesh : Float → Mesh → ℕ → TmeshDirection → Float → Position → InsertedMesh
+insertIntoMesh e mesh con d ratio position =
+    answeredMesh mesh position (insertPoint e (mesh .store) (listedIn (mesh .listed) con) con d ratio)
+
+-- ---- the map
+-- whether kept knots are still kept: done, they are dropped
+abbrev pub keptAfter : Bool → InsertAnswer → Bool
+keptAfter kept (Done opened inferred) = false
+keptAfter kept (Torn opened inferred met) = kept
+keptAfter kept (Refused refusal) = kept
+
+-- after an insertion, by its answer and the store that it left
+abbrev pub afterInsertion : Tmesh → Position → InsertAnswer → Store → Tmesh
+afterInsertion map position answer store =
+    record { mesh = meshAfter (map .mesh) position answer store; kept = keptAfter (map .kept) answer; knots = map .knots }
+
+-- the answer, and the map after it
+abbrev pub answered : Tmesh → Position → Inserted → Added
+answered map position inserted = record { answer = inserted .answer; map = afterInsertion map position (inserted .answer) (inserted .store) }
+
+-- towards direction d of the point con, at a ratio of the link there; e is the closeness
+unfoldable pub addControlPoint : Float → Tmesh → ℕ → TmeshDirection → Float → Position → Added
+addControlPoint e map con d ratio position = answered map position (insertPoint e (map .mesh .store) (isListed map con) con d ratio)

@@ -1,0 +1,2 @@
+pub mod Tmesh
+pub mod Insertion

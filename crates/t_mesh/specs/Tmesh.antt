@@ -1,0 +1,70 @@
+-- The map. A position is three floats. Positions stand beside the points, since nothing but evaluation reads them: nothing of a mesh's
+-- shape can depend on them. A point is listed once its insertion is done; the listing's order is that of the numbers.
+use Prim.Native.Nat.{ℕ}
+use mathlib.Core.Bool.{Bool, true, false}
+use mathlib.Core.List.{List, [], _∷_}
+use lib.Ieee.{Float}
+use lib.ListN.{getD, replicate}
+use Rattle.float64.specs.Literals.{zeroLiteral, oneLiteral}
+use Rattle.control_point.specs.Point.{loosePoint}
+use Rattle.control_point.specs.declared.t_mesh_control_point.Side.{Side}
+use Rattle.control_point.specs.declared.t_mesh_control_point.Side.the-variants.{Link, Border}
+use Rattle.control_point.specs.declared.t_mesh_control_point.TmeshControlPoint.{TmeshControlPoint}
+use Rattle.ray.specs.declared.knots.PointKnots.{PointKnots}
+use Rattle.store.specs.declared.store.Store.{Store}
+use Rattle.t_mesh.specs.declared.t_mesh.Position.{Position}
+use Rattle.t_mesh.specs.declared.t_mesh.Tmesh.{Tmesh}
+
+-- ---- the three axes
+pub data Axis : Type 0 where
+  X Y Z : Axis
+
+abbrev pub coordinate : Axis → Position → Float
+coordinate X p = p .x
+coordinate Y p = p .y
+coordinate Z p = p .z
+
+-- whether a listing has a number, and a map does
+abbrev pub listedIn : List Bool → ℕ → Bool
+listedIn listed n = getD listed n false
+
+abbrev pub isListed : Tmesh → ℕ → Bool
+isListed map n = listedIn (map .mesh .listed) n
+
+-- ---- `Tmesh::new`
+-- a corner with its sides, up, right, down and left, at coordinates
+abbrev pub corner : Side → Side → Side → Side → Float → Float → TmeshControlPoint
+corner up right down left s t = record { up = up; right = right; down = down; left = left; s = s; t = t }
+
+-- corners 0 to 3 anticlockwise from bottom left, corner 0 at (0, 0), four links of 1.0, eight borders of the given weight
+abbrev pub cornerStore : Float → Store
+cornerStore weight =
+    record {
+      points =
+          corner (Link 3 oneLiteral) (Link 1 oneLiteral) (Border weight) (Border weight) zeroLiteral zeroLiteral
+          ∷ (corner (Link 2 oneLiteral) (Border weight) (Border weight) (Link 0 oneLiteral) oneLiteral zeroLiteral
+          ∷ (corner (Border weight) (Border weight) (Link 1 oneLiteral) (Link 3 oneLiteral) oneLiteral oneLiteral
+          ∷ (corner (Border weight) (Link 2 oneLiteral) (Link 0 oneLiteral) (Border weight) zeroLiteral oneLiteral
+          ∷ replicate 124 (loosePoint zeroLiteral))));
+      made = 4;
+    }
+
+-- what stands where there is no point, and where no knots are kept
+abbrev pub origin : Position
+origin = record { x = zeroLiteral; y = zeroLiteral; z = zeroLiteral }
+
+abbrev pub blankKnots : PointKnots
+blankKnots = record { s = replicate 5 zeroLiteral; t = replicate 5 zeroLiteral }
+
+-- the map of a border weight and four corners: no knots are kept
+unfoldable pub newTmesh : Float → Position → Position → Position → Position → Tmesh
+newTmesh weight bottomLeft bottomRight topRight topLeft =
+    record {
+      mesh = record {
+        store = cornerStore weight;
+        positions = bottomLeft ∷ (bottomRight ∷ (topRight ∷ (topLeft ∷ replicate 124 origin)));
+        listed = true ∷ (true ∷ (true ∷ (true ∷ replicate 124 false)));
+      };
+      kept = false;
+      knots = replicate 128 blankKnots;
+    }

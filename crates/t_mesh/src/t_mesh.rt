@@ -1,0 +1,131 @@
+// The map and its parts.
+ghost use mathlib.Core.Path.{_≡_};
+ghost use Rattle.t_mesh.specs.Tmesh.{corner, cornerStore, listedIn, newTmesh};
+use control_point::t_mesh_control_point::Side;
+use control_point::t_mesh_control_point::TmeshControlPoint;
+use control_point::t_mesh_control_point::loose_point;
+use ray::knots::PointKnots;
+use store::store::Store;
+
+pub struct Position {
+    pub x: f64,
+    pub y: f64,
+    pub z: f64,
+}
+
+// The points, their positions, and which of them are listed.
+pub struct Mesh {
+    pub store: Store,
+    pub positions: [Position; 128],
+    pub listed: [bool; 128],
+}
+
+// A mesh, and whether the knots of its listed points are kept. Where they are not, what stands in their place means nothing.
+pub struct Tmesh {
+    pub mesh: Mesh,
+    pub kept: bool,
+    pub knots: [PointKnots; 128],
+}
+
+// Whether a number is listed.
+pub fn is_listed(listed: [bool; 128], n: u8) -> bool
+    ensures { λ r. ⌜ r ≡ listedIn listed n ⌝ }
+{
+    if n < 128 { listed[n as usize] } else { false }
+}
+
+// A corner's sides, and its coordinates.
+fn corner(up: Side, right: Side, down: Side, left: Side, s: f64, t: f64) -> TmeshControlPoint
+    ensures { λ r. ⌜ r ≡ corner up right down left s t ⌝ }
+{
+    TmeshControlPoint {
+        up,
+        right,
+        down,
+        left,
+        s,
+        t,
+    }
+}
+
+fn corner_store(weight: f64) -> Store
+    ensures { λ r. ⌜ r ≡ cornerStore weight ⌝ }
+{
+    let border = Side::Border(weight);
+    let mut points = [loose_point(0.0); 128];
+    points[0] = corner(
+        Side::Link(3, 1.0),
+        Side::Link(1, 1.0),
+        border,
+        border,
+        0.0,
+        0.0,
+    );
+    points[1] = corner(
+        Side::Link(2, 1.0),
+        border,
+        border,
+        Side::Link(0, 1.0),
+        1.0,
+        0.0,
+    );
+    points[2] = corner(
+        border,
+        border,
+        Side::Link(1, 1.0),
+        Side::Link(3, 1.0),
+        1.0,
+        1.0,
+    );
+    points[3] = corner(
+        border,
+        Side::Link(2, 1.0),
+        Side::Link(0, 1.0),
+        border,
+        0.0,
+        1.0,
+    );
+    Store { points, made: 4 }
+}
+
+impl Tmesh {
+    // The map of four corners, anticlockwise from bottom left, with one weight on all borders.
+    pub fn new(
+        weight: f64,
+        bottom_left: Position,
+        bottom_right: Position,
+        top_right: Position,
+        top_left: Position,
+    ) -> Tmesh
+        ensures { λ r. ⌜ r ≡ newTmesh weight «bottom_left» «bottom_right» «top_right» «top_left» ⌝ }
+    {
+        let store = corner_store(weight);
+        let mut positions = [Position {
+            x: 0.0,
+            y: 0.0,
+            z: 0.0,
+        }; 128];
+        positions[0] = bottom_left;
+        positions[1] = bottom_right;
+        positions[2] = top_right;
+        positions[3] = top_left;
+        let mut listed = [false; 128];
+        listed[0] = true;
+        listed[1] = true;
+        listed[2] = true;
+        listed[3] = true;
+        let blank = PointKnots {
+            s: [0.0; 5],
+            t: [0.0; 5],
+        };
+        Tmesh {
+            mesh: Mesh {
+                store,
+                positions,
+                listed,
+            },
+            kept: false,
+            knots: [blank; 128],
+        }
+    }
+}
