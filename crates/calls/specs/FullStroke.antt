@@ -1,0 +1,58 @@
+-- NEVER PAST FULL STROKE. Take any closeness e, any border weight w ≥ 0.0 (−0.0 and infinity are, a NaN is not), any four corners, any
+-- list of calls on the map made from them, and any axis. If the four corners lie in 0 to 1 on the axis, and so does the position of
+-- every insertion of the list that is answered done, then every evaluation of the list whose answer has a positive and finite total
+-- weight lies in 0 to 1 on the axis, both ends included, as the float that it is.
+-- Nothing is asked of the insertions that are refused or torn, of the other axes, of what the evaluations are given, or of the
+-- list's length. `le` and `lt` are f64's comparisons, false where either side is a NaN; `T b` says that the test b is true.
+use Prim.Native.Nat.{ℕ}
+use mathlib.Core.Path.{_≡_}
+use mathlib.Core.Bool.{false}
+use mathlib.Core.List.{List, [], _∷_}
+use lib.Dec.{T}
+use lib.Ieee.{Float, inf, lt, le}
+use Rattle.float64.specs.Sign.{0f, 1f}
+use Rattle.control_point.specs.declared.t_mesh_direction.TmeshDirection.{TmeshDirection}
+use Rattle.insertion.specs.declared.insertion.InsertAnswer.the-variants.{Done}
+use Rattle.t_mesh.specs.Tmesh.{Axis, coordinate, newTmesh}
+use Rattle.t_mesh.specs.declared.t_mesh.Position.{Position}
+use Rattle.evaluation.specs.Evaluation.{onAxis}
+use Rattle.evaluation.specs.declared.evaluation.Evaluation.{Evaluation}
+use Rattle.evaluation.specs.declared.evaluation.EvaluationAnswer.the-variants.{Is}
+use Rattle.calls.specs.Calls.{Call, insertion, inserted, evaluated, Event, runOf}
+
+-- from 0 to 1, both ends included
+abbrev pub InUnit : Float → Type 0
+InUnit x = T (le 0f x) × T (le x 1f)
+
+-- of every element of a list
+abbrev pub Each : {A : Type 0} → (A → Type 0) → List A → Type 0
+Each P [] = Unit {0}
+Each P (x ∷ rest) = P x × Each P rest
+
+-- if the event is an insertion answered done, its position lies in 0 to 1 on the axis
+abbrev pub DoneInUnit : Axis → Event → Type 0
+DoneInUnit axis event =
+    (con : ℕ) (d : TmeshDirection) (ratio : Float) (position : Position) (opened links : ℕ)
+    → event .call ≡ insertion con d ratio position
+    → event .answer ≡ inserted (Done opened links)
+    → InUnit (coordinate axis position)
+
+-- if the event is an evaluation whose answer has a positive and finite total weight, it lies in 0 to 1 on the axis
+abbrev pub EvaluationInUnit : Axis → Event → Type 0
+EvaluationInUnit axis event =
+    (value : Evaluation)
+    → event .answer ≡ evaluated (Is value)
+    → T (lt 0f (value .weight))
+    → T (lt (value .weight) (inf false))
+    → InUnit (onAxis axis value)
+
+abbrev pub NeverPastFullStroke : Type 0
+NeverPastFullStroke =
+    (e w : Float) (bottomLeft bottomRight topRight topLeft : Position) (calls : List Call) (axis : Axis)
+    → T (le 0f w)
+    → InUnit (coordinate axis bottomLeft)
+    → InUnit (coordinate axis bottomRight)
+    → InUnit (coordinate axis topRight)
+    → InUnit (coordinate axis topLeft)
+    → Each (DoneInUnit axis) (runOf e (newTmesh w bottomLeft bottomRight topRight topLeft) calls)
+    → Each (EvaluationInUnit axis) (runOf e (newTmesh w bottomLeft bottomRight topRight topLeft) calls)

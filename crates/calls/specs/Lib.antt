@@ -1,0 +1,15 @@
+pub mod Calls
+pub mod FullStroke
+pub mod ListLaws
+pub mod InsertionLaws
+pub mod Good
+pub mod GoodLaws
+pub mod GoodKnotsLaws
+pub mod Sound
+pub mod SoundLaws
+pub mod FullStrokeProof
+pub mod ExampleValues
+pub mod NotEmpty
+pub mod NotEmptyProof
+pub mod Readings
+pub mod ReadingsProof

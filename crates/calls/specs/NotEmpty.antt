@@ -1,0 +1,137 @@
+-- The theorem of FullStroke is not empty. On a map with border 1.0, at the closeness of document 01: a list of calls that meets its
+-- premises on the first axis and whose evaluation is exactly 1.0 there; and one that meets them on every axis, in which a torn point
+-- at 7.0 stands in the mesh, linked and not listed, and whose evaluation has a positive and finite weight and lies in 0 to 1.
+use mathlib.Core.Path.{_≡_}
+use mathlib.Core.Bool.{false}
+use mathlib.Core.List.{List, [], _∷_}
+use lib.Dec.{T}
+use lib.Ieee.{inf, binary64, ofBits, lt, le}
+use Rattle.float64.specs.Literals.{zeroLiteral, oneLiteral}
+use Rattle.float64.specs.Sign.{0f}
+use Rattle.control_point.specs.Small.{millionth}
+use Rattle.control_point.specs.declared.refusal.Refusal.the-variants.{BorderSide}
+use Rattle.control_point.specs.declared.t_mesh_control_point.Side.the-variants.{Link}
+use Rattle.control_point.specs.declared.t_mesh_direction.TmeshDirection.the-variants.{Right}
+use Rattle.store.specs.Store.{storeSides}
+use Rattle.insertion.specs.declared.insertion.InsertAnswer.the-variants.{Done, Torn}
+use Rattle.t_mesh.specs.Tmesh.{Axis, X, coordinate, isListed, newTmesh}
+use Rattle.t_mesh.specs.declared.t_mesh.Position.{Position}
+use Rattle.t_mesh.specs.declared.t_mesh.Tmesh.{Tmesh}
+use Rattle.evaluation.specs.Evaluation.{onAxis, positionOf}
+use Rattle.evaluation.specs.declared.evaluation.Evaluation.{Evaluation}
+use Rattle.evaluation.specs.declared.evaluation.EvaluationAnswer.the-variants.{Is}
+use Rattle.calls.specs.Calls.{Call, insertion, evaluation, inserted, evaluated, mapAfter, runOf}
+use Rattle.calls.specs.FullStroke.{InUnit, Each, DoneInUnit}
+use Rattle.calls.specs.ExampleValues.{half, seven, positionAt}
+
+-- the theorem's premises on an axis, of a list of calls on the map of border 1.0 and four corners
+pub record Premises (axis : Axis) (bottomLeft bottomRight topRight topLeft : Position) (calls : List Call) : Type 0 where
+  pub border : T (le 0f oneLiteral)
+  pub bottom-left : InUnit (coordinate axis bottomLeft)
+  pub bottom-right : InUnit (coordinate axis bottomRight)
+  pub top-right : InUnit (coordinate axis topRight)
+  pub top-left : InUnit (coordinate axis topLeft)
+  pub done : Each (DoneInUnit axis) (runOf millionth (newTmesh oneLiteral bottomLeft bottomRight topRight topLeft) calls)
+
+-- the weight of a value is positive and finite
+abbrev pub Weighty : Evaluation → Type 0
+Weighty value = T (lt 0f (value .weight)) × T (lt (value .weight) (inf false))
+
+-- ---- exactly 1.0: every corner and the point inserted lie at 1.0 on the first axis
+-- the two lower corners and the point inserted between them, and the two upper corners
+abbrev pub lower : Position
+lower = positionAt oneLiteral zeroLiteral zeroLiteral
+
+abbrev pub upper : Position
+upper = positionAt oneLiteral oneLiteral oneLiteral
+
+-- an insertion, and an evaluation in the middle
+abbrev pub fullCalls : List Call
+fullCalls = insertion 0 Right half lower ∷ (evaluation half half ∷ [])
+
+-- what the evaluation answers: 1.0 on the first axis
+abbrev pub full : Evaluation
+full =
+    record {
+      x = oneLiteral;
+      y = ofBits binary64 0x3fde_f7bd_ef7b_def8;
+      z = ofBits binary64 0x3fde_f7bd_ef7b_def8;
+      weight = ofBits binary64 0x3fed_1000_0000_0000;
+    }
+
+-- the calls with their answers
+abbrev pub FullRun : Type 0
+FullRun =
+    runOf millionth (newTmesh oneLiteral lower lower upper upper) fullCalls
+    ≡ record { call = insertion 0 Right half lower; answer = inserted (Done 1 0) }
+    ∷ (record { call = evaluation half half; answer = evaluated (Is full) } ∷ [])
+
+-- the premises hold, and the evaluation is exactly 1.0 with a positive and finite weight
+pub record FullStrokeTouched : Type 0 where
+  pub premises : Premises X lower lower upper upper fullCalls
+  pub run : FullRun
+  pub weighty : Weighty full
+
+-- ---- a torn point at 7.0 on every axis, in the map of document 01's example file
+-- its four corners, and the map
+abbrev pub bottomLeft : Position
+bottomLeft = positionAt zeroLiteral zeroLiteral zeroLiteral
+
+abbrev pub bottomRight : Position
+bottomRight = positionAt oneLiteral zeroLiteral zeroLiteral
+
+abbrev pub topRight : Position
+topRight = positionAt oneLiteral oneLiteral oneLiteral
+
+abbrev pub topLeft : Position
+topLeft = positionAt zeroLiteral oneLiteral oneLiteral
+
+abbrev pub plate : Tmesh
+plate = newTmesh oneLiteral bottomLeft bottomRight topRight topLeft
+
+-- a position past full stroke, and an insertion of it that is torn
+abbrev pub outside : Position
+outside = positionAt seven seven seven
+
+abbrev pub tearing : Call
+tearing = insertion 0 Right zeroLiteral outside
+
+-- that insertion, and an evaluation in the middle
+abbrev pub tornCalls : List Call
+tornCalls = tearing ∷ (evaluation half half ∷ [])
+
+-- what the evaluation answers
+abbrev pub inside : Evaluation
+inside =
+    record {
+      x = ofBits binary64 0x3fe2_6666_6666_6666;
+      y = ofBits binary64 0x3fe8_0000_0000_0000;
+      z = ofBits binary64 0x3fe8_0000_0000_0000;
+      weight = ofBits binary64 0x3fe2_c000_0000_0000;
+    }
+
+-- the calls with their answers
+abbrev pub TornRun : Type 0
+TornRun =
+    runOf millionth plate tornCalls
+    ≡ record { call = tearing; answer = inserted (Torn 1 0 BorderSide) }
+    ∷ (record { call = evaluation half half; answer = evaluated (Is inside) } ∷ [])
+
+-- the torn point stands in the mesh with its position, linked from point 0 at 0.0, and is not listed
+abbrev pub TornStands : Type 0
+TornStands =
+    (positionOf (mapAfter millionth plate tearing) 4 ≡ outside)
+    × ((storeSides (mapAfter millionth plate tearing .mesh .store) 0 Right ≡ Link 4 zeroLiteral)
+    × (isListed (mapAfter millionth plate tearing) 4 ≡ false))
+
+-- the premises hold on every axis, the torn point stands in the mesh, and the evaluation lies in 0 to 1
+pub record TornPointPassedOver : Type 0 where
+  pub premises : (axis : Axis) → Premises axis bottomLeft bottomRight topRight topLeft tornCalls
+  pub run : TornRun
+  pub stands : TornStands
+  pub weighty : Weighty inside
+  pub in-unit : (axis : Axis) → InUnit (onAxis axis inside)
+
+-- both
+abbrev pub NotEmpty : Type 0
+NotEmpty = FullStrokeTouched × TornPointPassedOver

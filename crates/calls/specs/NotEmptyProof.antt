@@ -1,0 +1,111 @@
+-- Both lists of NotEmpty, by computing: every call of them runs on closed values.
+use mathlib.Core.Path.{_≡_, refl, sym, subst}
+use mathlib.Core.List.{[], _∷_}
+use lib.Ieee.{Float, ofBits, ofFields, add, sub, mul, div, sum, round, units, odd, size, span, climb, neg, le, lt, eq}
+use Rattle.float64.specs.Literals.{zeroLiteral, oneLiteral}
+use Rattle.basis.specs.Formula.{sumOfTerms, formula}
+use Rattle.control_point.specs.Connect.{connectable}
+use Rattle.control_point.specs.Point.{isMade}
+use Rattle.control_point.specs.Sides.{sidesOf}
+use Rattle.control_point.specs.Small.{millionth, small}
+use Rattle.control_point.specs.Walk.{onward, walkOf}
+use Rattle.control_point.specs.declared.refusal.Refusal.the-variants.{BorderSide}
+use Rattle.control_point.specs.declared.t_mesh_direction.TmeshDirection.the-variants.{Right}
+use Rattle.search.specs.Search.{judgeAt, seekFrom, findInferredConnection}
+use Rattle.store.specs.Store.{connectPoints}
+use Rattle.insertion.specs.Insert.{inUnit, checked, checkedIntervals, placed, newSide, firstSide, withFirst, secondSide, sided, insertPoint}
+use Rattle.insertion.specs.declared.insertion.InsertAnswer.the-variants.{Done, Torn, Refused}
+use Rattle.ray.specs.Approach.{approachIn, approachOf}
+use Rattle.ray.specs.Ray.{rayFrom, rayOf}
+use Rattle.ray.specs.Knots.{knotsAt, pointKnotVectors}
+use Rattle.t_mesh.specs.Tmesh.{Axis, X, Y, Z, coordinate, newTmesh}
+use Rattle.t_mesh.specs.Insertion.{addControlPoint}
+use Rattle.evaluation.specs.Knots.{rowsFrom, allKnots, generateKnotVectors}
+use Rattle.evaluation.specs.Evaluation.{onAxis, sumFrom, valueOf, withKnots, subsOf}
+use Rattle.evaluation.specs.declared.evaluation.EvaluationAnswer.the-variants.{Is}
+use Rattle.calls.specs.Calls.{Call, insertion, evaluation, Answer, inserted, evaluated, Event, runOf}
+use Rattle.calls.specs.FullStroke.{InUnit, Each, DoneInUnit}
+use Rattle.calls.specs.ExampleValues.{half, positionAt}
+use Rattle.calls.specs.NotEmpty.{FullRun, FullStrokeTouched, inside, TornRun, TornStands, TornPointPassedOver, NotEmpty}
+
+-- ---- the premises on done insertions, of single events
+abbrev PlacedInUnit : Axis → Call → Type 0
+PlacedInUnit axis (insertion con d ratio position) = InUnit (coordinate axis position)
+PlacedInUnit axis (evaluation s t) = Unit {0}
+
+abbrev NotDone : Answer → Type 0
+NotDone (inserted (Done opened links)) = ⊥
+NotDone (inserted (Torn opened links met)) = Unit {0}
+NotDone (inserted (Refused refusal)) = Unit {0}
+NotDone (evaluated answer) = Unit {0}
+
+in-unit-event : (axis : Axis) (event : Event) → PlacedInUnit axis (event .call) → DoneInUnit axis event
+in-unit-event axis event h con d ratio position opened links call answer = subst (PlacedInUnit axis) call h
+
+other-event : (axis : Axis) (event : Event) → NotDone (event .answer) → DoneInUnit axis event
+other-event axis event h con d ratio position opened links call answer = absurd (subst NotDone answer h)
+
+zero-in-unit : InUnit zeroLiteral
+unfolding ofBits ofFields le lt eq
+zero-in-unit = (tt, tt)
+
+one-in-unit : InUnit oneLiteral
+unfolding ofBits ofFields le lt eq
+one-in-unit = (tt, tt)
+
+-- ---- the calls
+computed : FullRun × (TornRun × TornStands)
+unfolding runOf newTmesh addControlPoint insertPoint inUnit checked checkedIntervals placed newSide firstSide withFirst secondSide sided
+    connectPoints connectable isMade sidesOf millionth small findInferredConnection seekFrom judgeAt walkOf onward subsOf withKnots
+    generateKnotVectors allKnots rowsFrom pointKnotVectors knotsAt rayOf rayFrom approachOf approachIn valueOf sumFrom formula sumOfTerms
+    le lt eq ofBits ofFields add sub mul div sum round units odd size span climb neg
+computed = (refl, (refl, (refl, (refl, refl))))
+
+full-stroke-touched : FullStrokeTouched
+unfolding ofBits ofFields lt
+full-stroke-touched =
+    record {
+      premises = record {
+        border = one-in-unit .0;
+        bottom-left = one-in-unit;
+        bottom-right = one-in-unit;
+        top-right = one-in-unit;
+        top-left = one-in-unit;
+        done = subst (Each (DoneInUnit X)) (sym (computed .0)) (in-unit-event X _ one-in-unit, (other-event X _ tt, tt));
+      };
+      run = computed .0;
+      weighty = (tt, tt);
+    }
+
+corner-in-unit : (axis : Axis) (x y z : Float) → InUnit x → InUnit y → InUnit z → InUnit (coordinate axis (positionAt x y z))
+corner-in-unit X x y z a b c = a
+corner-in-unit Y x y z a b c = b
+corner-in-unit Z x y z a b c = c
+
+inside-in-unit : (axis : Axis) → InUnit (onAxis axis inside)
+unfolding ofBits ofFields le lt eq
+inside-in-unit X = (tt, tt)
+inside-in-unit Y = (tt, tt)
+inside-in-unit Z = (tt, tt)
+
+torn-point-passed-over : TornPointPassedOver
+unfolding ofBits ofFields lt
+torn-point-passed-over =
+    record {
+      premises = λ axis.
+          record {
+            border = one-in-unit .0;
+            bottom-left = corner-in-unit axis zeroLiteral zeroLiteral zeroLiteral zero-in-unit zero-in-unit zero-in-unit;
+            bottom-right = corner-in-unit axis oneLiteral zeroLiteral zeroLiteral one-in-unit zero-in-unit zero-in-unit;
+            top-right = corner-in-unit axis oneLiteral oneLiteral oneLiteral one-in-unit one-in-unit one-in-unit;
+            top-left = corner-in-unit axis zeroLiteral oneLiteral oneLiteral zero-in-unit one-in-unit one-in-unit;
+            done = subst (Each (DoneInUnit axis)) (sym (computed .1 .0)) (other-event axis _ tt, (other-event axis _ tt, tt));
+          };
+      run = computed .1 .0;
+      stands = computed .1 .1;
+      weighty = (tt, tt);
+      in-unit = inside-in-unit;
+    }
+
+pub not-empty : NotEmpty
+not-empty = (full-stroke-touched, torn-point-passed-over)

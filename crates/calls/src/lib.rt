@@ -1,0 +1,1 @@
+// Lists of calls on a map: definitions, statements and proofs in specs/, and no function.

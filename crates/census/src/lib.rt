@@ -1,0 +1,4 @@
+// What is counted and listed of a map.
+pub mod census;
+pub mod counts;
+pub mod openings;

@@ -1,0 +1,10 @@
+pub mod Theorems
+pub mod KnownLaws
+pub mod KnownRayLaws
+pub mod LinkLaws
+pub mod PlacingLaws
+pub mod AcrossLaws
+pub mod InsertionLaws
+pub mod MapLaws
+pub mod FreshLaws
+pub mod EveryMapProof

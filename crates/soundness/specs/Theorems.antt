@@ -1,0 +1,127 @@
+-- Theorems on lists of calls on a map: statements only, with what they speak of. The lists are every list of insertions and evaluations
+-- on a fresh map of any border weight and corners, with any closeness and any arguments, calls refused or torn among them. Of the maps that
+-- they leave is said that links are mirrored, what is listed, that no connect of an insertion fails, and that 11 is met by no call; the call
+-- that is spoken of may have a closeness other than the list's.
+use Prim.Native.Nat.{ℕ, _<_}
+use mathlib.Core.Path.{_≡_}
+use mathlib.Core.Bool.{Bool, true, false, _&&_, _||_}
+use mathlib.Core.List.{List, [], _∷_}
+use lib.Dec.{eqb}
+use lib.Ieee.{Float}
+use Rattle.control_point.specs.Direction.{clockwiseOf, antiClockwiseOf}
+use Rattle.control_point.specs.declared.refusal.Outcome.the-variants.{Done, Refused}
+use Rattle.control_point.specs.declared.refusal.Refusal.the-variants.{NoPoint}
+use Rattle.control_point.specs.declared.t_mesh_direction.TmeshDirection.{TmeshDirection}
+use Rattle.control_point.specs.declared.t_mesh_control_point.Side.the-variants.{Link, Opening}
+use Rattle.control_point.specs.declared.walk.Walk.the-variants.{Refused as NoWalk}
+use Rattle.store.specs.Store.{storeSides, withSideAt, connectPoints, navigateUntilCon}
+use Rattle.store.specs.declared.store.Store.{Store}
+use Rattle.mirror.specs.Mirror.{Sound}
+use Rattle.insertion.specs.Insert.{nearJoined, farJoined, placed, firstSide, withFirst, secondSide, sided, insertPoint}
+use Rattle.insertion.specs.declared.across.NewSide.{NewSide}
+use Rattle.insertion.specs.declared.across.NewSide.the-variants.{Takes, Joins, Opens, Tears, Stays}
+use Rattle.insertion.specs.declared.insertion.Inserted.{Inserted}
+use Rattle.insertion.specs.declared.insertion.InsertAnswer.the-variants.{Torn, Refused as NotAdded}
+use Rattle.ray.specs.Knots.{pointKnotVectors}
+use Rattle.ray.specs.Ray.{refused, rayOf}
+use Rattle.t_mesh.specs.Insertion.{isDone, isRefused, addControlPoint}
+use Rattle.t_mesh.specs.Tmesh.{isListed, newTmesh}
+use Rattle.t_mesh.specs.declared.t_mesh.Position.{Position}
+use Rattle.t_mesh.specs.declared.t_mesh.Tmesh.{Tmesh}
+use Rattle.evaluation.specs.Evaluation.{subsOf}
+use Rattle.evaluation.specs.Knots.{generateKnotVectors}
+use Rattle.evaluation.specs.declared.evaluation.EvaluationAnswer.the-variants.{Refused as NoValue}
+use Rattle.calls.specs.Calls.{Call, Answer, inserted, evaluated, answerTo, mapAfter}
+
+-- ---- the maps
+-- the map after a list of calls, each on the map that the one before it left
+unfoldable pub mapAfterAll : Float → Tmesh → List Call → Tmesh
+mapAfterAll e map [] = map
+mapAfterAll e map (call ∷ rest) = mapAfterAll e (mapAfter e map call) rest
+
+-- what holds of the map after every list of calls on every fresh one
+abbrev pub EveryMap : (Tmesh → Type 0) → Type 0
+EveryMap Holds =
+    (e weight : Float) (bottomLeft bottomRight topRight topLeft : Position) (calls : List Call)
+    → Holds (mapAfterAll e (newTmesh weight bottomLeft bottomRight topRight topLeft) calls)
+
+-- Each link of a made point leads to another made point, whose facing side links back with the same interval, bit for bit.
+abbrev pub EveryMapMirrored : Type 0
+EveryMapMirrored = EveryMap (λ map. Sound (map .mesh .store))
+
+-- ---- the listing
+-- Each number that is listed is made.
+abbrev pub ListedIsMade : Type 0
+ListedIsMade = EveryMap (λ map. (n : ℕ) → isListed map n ≡ true → n < map .mesh .store .made)
+
+-- whether an answer is that of an insertion done
+abbrev pub listsPoint : Answer → Bool
+listsPoint (inserted answer) = isDone answer
+listsPoint (evaluated answer) = false
+
+-- An insertion done adds to the listing the number that was the count of points made before, and no other; every other call leaves the
+-- listing as it was. As what was listed is made, so of a lower number, the listing is in number order.
+abbrev pub ListingGrows : Type 0
+ListingGrows =
+    EveryMap
+    (λ map.
+    (e : Float) (call : Call) (n : ℕ)
+    → isListed (mapAfter e map call) n ≡ ((listsPoint (answerTo e map call) && eqb n (map .mesh .store .made)) || isListed map n))
+
+-- ---- the connects of an insertion
+-- a side of p that joins another point does so by a connect that is done
+abbrev pub Connects : Store → ℕ → TmeshDirection → NewSide → Type 0
+Connects store p f (Takes weight) = Unit {0}
+Connects store p f (Joins n interval) = connectPoints (withSideAt store p f Opening) p n f interval .outcome ≡ Done
+Connects store p f Opens = Unit {0}
+Connects store p f (Tears refusal) = Unit {0}
+Connects store p f Stays = Unit {0}
+
+-- what came of an insertion into the link from con in direction d, all of whose connects are done: con's with the new point, the new
+-- point's with the other, and that of an inferred link on either side
+pub record Placing (e : Float) (store : Store) (con : ℕ) (d : TmeshDirection) (ratio : Float) (result : Inserted) : Type 0 where
+  pub other : ℕ
+  pub interval : Float
+  pub link : storeSides store con d ≡ Link other interval
+  pub is : result ≡ sided e (placed store con other d interval ratio) con (store .made) d
+  pub near : nearJoined store con other d interval ratio .outcome ≡ Done
+  pub far : farJoined store con other d interval ratio .outcome ≡ Done
+  pub first : Connects (placed store con other d interval ratio)
+      (store .made)
+      (clockwiseOf d)
+      (firstSide e (placed store con other d interval ratio) con (store .made) d)
+  pub second : Connects (withFirst e (placed store con other d interval ratio) con (store .made) d)
+      (store .made)
+      (antiClockwiseOf d)
+      (secondSide e (placed store con other d interval ratio) con (store .made) d)
+
+-- An insertion that passes its checks, so that it is done or torn: the two connects that place the point are done, and so is the connect of
+-- each inferred link.
+abbrev pub PlacingConnects : Type 0
+PlacingConnects =
+    EveryMap
+    (λ map.
+    (e : Float) (con : ℕ) (d : TmeshDirection) (ratio : Float) (position : Position)
+    → isRefused (addControlPoint e map con d ratio position .answer) ≡ false
+    → Placing e (map .mesh .store) con d ratio (insertPoint e (map .mesh .store) (isListed map con) con d ratio))
+
+-- ---- 11, no point
+-- no call on a map meets 11: no insertion is refused so, nor torn by a search that met it; no walk, no ray of any length and no building of
+-- knots from a made point is refused so; nor are the building of all knots and an evaluation
+pub record MeetsPoints (map : Tmesh) : Type 0 where
+  pub adds : (e : Float) (con : ℕ) (d : TmeshDirection) (ratio : Float) (position : Position)
+      → addControlPoint e map con d ratio position .answer ≡ NotAdded NoPoint → ⊥
+  pub tears : (e : Float) (con : ℕ) (d : TmeshDirection) (ratio : Float) (position : Position) (opened inferred : ℕ)
+      → addControlPoint e map con d ratio position .answer ≡ Torn opened inferred NoPoint → ⊥
+  pub walks : (n : ℕ) → n < map .mesh .store .made → (travel watch : TmeshDirection)
+      → navigateUntilCon (map .mesh .store) n travel watch ≡ NoWalk NoPoint → ⊥
+  pub casts : (n : ℕ) → n < map .mesh .store .made → (e : Float) (d : TmeshDirection) (length : ℕ)
+      → rayOf e (storeSides (map .mesh .store)) (map .mesh .store .made) n d length ≡ refused NoPoint → ⊥
+  pub builds : (n : ℕ) → n < map .mesh .store .made → (e : Float)
+      → pointKnotVectors e (map .mesh .store) n .outcome ≡ Refused NoPoint → ⊥
+  pub generates : (e : Float) → generateKnotVectors e map .outcome ≡ Refused NoPoint → ⊥
+  pub evaluates : (e s t : Float) → subsOf e map s t .answer ≡ NoValue NoPoint → ⊥
+
+-- Links and listing lead to made points only, so 11 does not arise.
+abbrev pub NoPointNever : Type 0
+NoPointNever = EveryMap MeetsPoints
