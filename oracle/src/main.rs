@@ -5,7 +5,7 @@ mod calls;
 mod compare;
 mod differences;
 mod draw;
-mod insertion_cases;
+mod map_cases;
 mod map_calls;
 mod original;
 mod random;
@@ -20,7 +20,7 @@ fn main() {
     match words.first().map(String::as_str) {
         Some("basis") => basis_cases::write(SEED),
         Some("store") => store_cases::write(SEED),
-        Some("insertion") => insertion_cases::write(SEED),
+        Some("map") => map_cases::write(SEED),
         Some("compare") => {
             let maps = words.get(1).map_or(20000, |word| word.parse().expect("a number of maps"));
             let seed = words.get(2).map_or(SEED, |word| word.parse().expect("a seed"));
@@ -28,6 +28,6 @@ fn main() {
         }
         Some("differences") => differences::show(),
         Some("published-side") => differences::published_side(words[1].parse().expect("the number of an example")),
-        _ => println!("words: basis store insertion compare differences"),
+        _ => println!("words: basis store map compare differences"),
     }
 }

@@ -156,10 +156,14 @@ wide-requires-4 : tie.Need-wide-requires-4
 wide-requires-4 c κs = search needs
 
 mul-t37 : tie.Need-mul-t37
-mul-t37 c = omega (arith, isMade-room _ _ (passing (other-of (c .before .before .before .before)) .other-made))
+mul-t37 c =
+    let w = passing (other-of (c .before .before .before .before)) in
+    omega (arith, isMade-room _ _ (w .other-made))
 
 element-set-from-store : tie.Need-element-set-from-store
-element-set-from-store c = omega (arith, isMade-room _ _ (passing (other-of (c .before .before .before .before)) .other-made))
+element-set-from-store c =
+    let w = passing (other-of (c .before .before .before .before)) in
+    omega (arith, isMade-room _ _ (w .other-made))
 
 add-store : tie.Need-add-store
 add-store c = omega (arith, passing (other-of (c .before .before .before .before)) .roomy)

@@ -212,7 +212,7 @@ pub fn write(seed: u64) {
     let mut out = Bytes::default();
     lists.iter().for_each(|list| put(&mut out, list));
     print_table(&lists);
-    out.write("crates/insertion_replay/data/cases");
+    out.write("crates/map_replay/data/cases");
 }
 
 fn print_table(lists: &[MapList]) {
