@@ -2,8 +2,6 @@ pub mod Approach
 pub mod Entry
 pub mod Ray
 pub mod Knots
-pub mod Readings
 pub mod ApproachLaws
 pub mod RayLaws
 pub mod KnotsLaws
-pub mod ReadingsLaws
