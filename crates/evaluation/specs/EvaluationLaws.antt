@@ -2,7 +2,7 @@
 -- evaluation stand together; and the map by whose knots it is;
 -- and 1.0 / 0.0.
 use Prim.Native.Nat.{ℕ, suc, _+_, _-_, _<_}
-use mathlib.Core.Path.{_≡_, refl, sym, ap, _∙_}
+use mathlib.Core.Path.{_≡_, refl, ap, _∙_}
 use mathlib.Core.Bool.{Bool, true, false, cond}
 use native.Mathlib.Omega.{arith}
 use lib.Ieee.{Float, inf, binary64, ofBits, ofFields, add, div}

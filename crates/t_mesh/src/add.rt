@@ -66,9 +66,8 @@ pub fn insert_into(
     ensures { λ r. ⌜ r ≡ insertIntoMesh closeness mesh con direction ratio position ⌝ }
 {
     let listed = is_listed(mesh.listed, con);
-    let store = mesh.store;
-    let made = store.made;
-    let inserted = insert_point(closeness, store, listed, con, direction, ratio);
+    let made = mesh.store.made;
+    let inserted = insert_point(closeness, mesh.store, listed, con, direction, ratio);
     let answer = inserted.answer;
     if !is_refused(answer) {
         let after = inserted.store;
@@ -89,8 +88,7 @@ pub fn add_control_point(
 ) -> Added
     ensures { λ r. ⌜ r ≡ addControlPoint millionth map con direction ratio position ⌝ }
 {
-    let mesh = map.mesh;
-    let inserted = insert_into(closeness(), mesh, con, direction, ratio, position);
+    let inserted = insert_into(closeness(), map.mesh, con, direction, ratio, position);
     let answer = inserted.answer;
     let after = inserted.mesh;
     map.mesh = after;

@@ -1,12 +1,11 @@
 -- `listed_knots` meets its contract: at each turn the rows of the numbers below n are filled, and those left give the whole.
 use borrow.Author.Needs.{needs}
 use denote.Ref.{now}
-use Prim.Native.Nat.{ℕ, _≤_, _-_, _+_}
+use Prim.Native.Nat.{_≤_, _-_, _+_}
 use mathlib.Core.Path.{_≡_, _∙_, sym, ap, refl}
 use mathlib.Core.Logic.{⊎-elim}
 use native.Mathlib.Omega.{arith}
 use Rattle.control_point.specs.Sides.{lentSides}
-use Rattle.ray.specs.Knots.{pointKnotVectors}
 use Rattle.evaluation.specs.Knots.{allKnots, heldKnots, rowsFrom}
 use Rattle.evaluation.specs.KnotsLaws.{knots-over, rows-end, rows-passed, rows-put, rows-refused}
 use Rattle.evaluation.proofs.knots.listed_knots.Statement.{statement}

@@ -26,7 +26,7 @@ returns : tie.Need-returns
 unfolding insertIntoMesh addControlPoint
 returns c =
     let i = c .before .before in
-    let a = i .before .before .before .args in
+    let a = i .before .before .args in
     rw (c .kept-after .ensures)
     (ap (mapWith (a .map))
     (i .insert-into .ensures
