@@ -1,0 +1,96 @@
+-- Answers of the calls on a map, and the map at a list's end, against stored bytes. A call's bytes begin with its kind and its arguments; the answer's
+-- number follows them, and then what a call that is done answers besides. Floats are compared by their bits; a flag is 1 or 0.
+use Prim.Native.Nat.{ℕ, zero, suc, _+_, _*_}
+use mathlib.Core.Bool.{Bool, true, cond, _&&_}
+use mathlib.Core.List.{List, []}
+use lib.Dec.{eqb}
+use lib.Ieee.{Float, nan}
+use lib.ListN.{drop, getD, length}
+use Rattle.control_point.specs.Refusal.{refusalNumber}
+use Rattle.control_point.specs.declared.refusal.Outcome.{Outcome}
+use Rattle.control_point.specs.declared.refusal.Outcome.the-variants.{Done as Settled, Refused as NotSettled}
+use Rattle.evaluation.specs.declared.evaluation.Evaluation.{Evaluation}
+use Rattle.evaluation.specs.declared.evaluation.EvaluationAnswer.{EvaluationAnswer}
+use Rattle.evaluation.specs.declared.evaluation.EvaluationAnswer.the-variants.{Is, Refused as NotEvaluated}
+use Rattle.insertion.specs.declared.insertion.InsertAnswer.{InsertAnswer}
+use Rattle.insertion.specs.declared.insertion.InsertAnswer.the-variants.{Done, Torn, Refused}
+use Rattle.ray.specs.declared.knots.KnotsAnswer.{KnotsAnswer}
+use Rattle.store.specs.declared.store.Store.{Store}
+use Rattle.stored_calls.specs.Points.{hasBits, storeIsRight}
+use Rattle.stored_numbers.specs.BigEndian.{byteAt, numberAt, floatAt}
+use Rattle.t_mesh.specs.Tmesh.{listedIn}
+use Rattle.t_mesh.specs.declared.t_mesh.Position.{Position}
+use Rattle.map_replay.specs.declared.answers.Judged.{Judged}
+
+-- the position whose three coordinates stand at a place
+abbrev pub positionAt : List ℕ → ℕ → Position
+positionAt bytes at = record { x = floatAt (drop at bytes) 0; y = floatAt (drop at bytes) 8; z = floatAt (drop at bytes) 16 }
+
+-- whether the two counts of an insertion stand behind its number
+abbrev pub countsAreRight : ℕ → ℕ → List ℕ → Bool
+countsAreRight opened inferred call = eqb opened (byteAt call 36) && eqb inferred (byteAt call 37)
+
+-- an insertion held against its stored answer
+unfoldable pub insertionJudged : InsertAnswer → List ℕ → Judged
+insertionJudged (Done opened inferred) call = record { right = eqb (byteAt call 35) 0 && countsAreRight opened inferred call; bytes = 38 }
+insertionJudged (Torn opened inferred met) call = record { right = eqb (byteAt call 35) 8 && countsAreRight opened inferred call; bytes = 38 }
+insertionJudged (Refused refusal) call = record { right = eqb (byteAt call 35) (refusalNumber refusal); bytes = 36 }
+
+-- whether the first so many floats have the bits stored
+unfoldable pub firstAreRight : ℕ → List Float → List ℕ → Bool
+firstAreRight zero floats bytes = true
+firstAreRight (suc n) floats bytes = firstAreRight n floats bytes && hasBits (getD floats n nan) (numberAt 8 bytes (n * 8))
+
+-- whether floats have the bits that bytes begin with
+abbrev pub floatsAreRight : List Float → List ℕ → Bool
+floatsAreRight floats bytes = firstAreRight (length floats) floats bytes
+
+-- whether a call that fills floats answered a number and the floats stored; refused, it leaves them all 0.0, whose bits are 0
+unfoldable pub outcomeIsRight : Outcome → List Float → ℕ → List ℕ → Bool
+outcomeIsRight Settled floats number bytes = eqb number 0 && floatsAreRight floats bytes
+outcomeIsRight (NotSettled refusal) floats number bytes = eqb number (refusalNumber refusal) && floatsAreRight floats []
+
+-- how many bytes such a call takes
+unfoldable pub bytesTaken : Outcome → ℕ → ℕ → ℕ
+bytesTaken Settled done refused = done
+bytesTaken (NotSettled refusal) done refused = refused
+
+-- a ray held against its stored answer; its length stands at 3
+abbrev pub rayJudged : Outcome → List Float → List ℕ → Judged
+rayJudged outcome entries call = record {
+  right = outcomeIsRight outcome entries (byteAt call 4) (drop 5 call);
+  bytes = bytesTaken outcome (byteAt call 3 * 8 + 5) 5;
+}
+
+-- a point's knots held against their stored answer: those across, then those upwards
+abbrev pub knotsJudged : KnotsAnswer → List ℕ → Judged
+knotsJudged answer call = record {
+  right = outcomeIsRight (answer .outcome) (answer .knots .s) (byteAt call 2) (drop 3 call) && outcomeIsRight (answer .outcome) (answer .knots .t) (byteAt call 2) (drop 43 call);
+  bytes = bytesTaken (answer .outcome) 83 3;
+}
+
+-- whether a position and its total weight are those that bytes begin with
+abbrev pub valueIsRight : Evaluation → List ℕ → Bool
+valueIsRight value bytes =
+    (hasBits (value .x) (numberAt 8 bytes 0) && (hasBits (value .y) (numberAt 8 bytes 8) && hasBits (value .z) (numberAt 8 bytes 16)))
+    && hasBits (value .weight) (numberAt 8 bytes 24)
+
+-- an evaluation held against its stored answer
+unfoldable pub evaluationJudged : EvaluationAnswer → List ℕ → Judged
+evaluationJudged (Is value) call = record { right = eqb (byteAt call 17) 0 && valueIsRight value (drop 18 call); bytes = 50 }
+evaluationJudged (NotEvaluated refusal) call = record { right = eqb (byteAt call 17) (refusalNumber refusal); bytes = 18 }
+
+-- whether a byte says what a flag is
+abbrev pub flagIsAt : Bool → List ℕ → ℕ → Bool
+flagIsAt flag bytes at = eqb (byteAt bytes at) (cond flag 1 0)
+
+-- whether bytes begin with a flag for each of the first so many numbers: whether it is listed
+unfoldable pub listingIsRight : ℕ → List Bool → List ℕ → Bool
+listingIsRight zero listed bytes = true
+listingIsRight (suc n) listed bytes = listingIsRight n listed bytes && flagIsAt (listedIn listed n) bytes n
+
+-- whether a map is the one that bytes begin with: its store, its listing, and whether knots are kept
+abbrev pub mapIsRight : Store → List Bool → Bool → List ℕ → Bool
+mapIsRight store listed kept bytes =
+    (storeIsRight store bytes && listingIsRight (store .made) listed (drop (store .made * 56 + 1) bytes))
+    && flagIsAt kept (drop (store .made * 56 + 1) bytes) (store .made)

@@ -1,0 +1,256 @@
+// Replays the stored lists of calls on a map, and says how many came out right. oracle/README.md has the format of data/cases.
+ghost use mathlib.Core.Path.{_≡_};
+ghost use Rattle.map_replay.specs.Answers.{positionAt};
+
+mod answers;
+
+use crate::answers::Judged;
+use crate::answers::judge_evaluation;
+use crate::answers::judge_insertion;
+use crate::answers::judge_knots;
+use crate::answers::judge_ray;
+use crate::answers::map_is_right;
+use control_point::sides::wide;
+use control_point::small::closeness;
+use control_point::t_mesh_direction::TmeshDirection;
+use evaluation::evaluation::subs;
+use ray::knots::point_knot_vectors;
+use ray::ray::cast_ray;
+use replay::Outcome;
+use replay::Tally;
+use replay::count_outcome;
+use replay::is_end;
+use replay::outcome_of;
+use store::store::Store;
+use stored_calls::call::replay_call;
+use stored_calls::points::both;
+use stored_numbers::after;
+use stored_numbers::byte_at;
+use stored_numbers::float_at;
+use stored_numbers::pair_at;
+use t_mesh::add::add_control_point;
+use t_mesh::t_mesh::Position;
+use t_mesh::t_mesh::Tmesh;
+
+// More lists than the file holds: the loop ends with the file.
+const MOST_LISTS: u64 = 1000000;
+
+// Where a list's calls begin.
+const CALLS: usize = 106;
+
+const INSERTION: u8 = 0;
+
+const RAY: u8 = 1;
+
+const EVALUATION: u8 = 3;
+
+// The first of the kinds that are direct calls.
+const DIRECT: u8 = 16;
+
+// A call made: the map after it, whether it answered what is stored, and how many bytes it takes.
+struct MapReplayed {
+    map: Tmesh,
+    right: bool,
+    bytes: usize,
+}
+
+fn position_at(bytes: &[u8], at: usize) -> Position
+    ensures { λ r. ⌜ r ≡ positionAt (now (bytes .entry)) at ⌝ }
+{
+    let place = after(bytes, at);
+    Position {
+        x: float_at(place, 0),
+        y: float_at(place, 8),
+        z: float_at(place, 16),
+    }
+}
+
+fn replay_insertion(call: &[u8], map: Tmesh) -> MapReplayed {
+    let direction = TmeshDirection::numbered(byte_at(call, 2));
+    let position = position_at(call, 11);
+    let added = add_control_point(
+        map,
+        byte_at(call, 1),
+        direction,
+        float_at(call, 3),
+        position,
+    );
+    let answer = added.answer;
+    let judged = judge_insertion(answer, call);
+    let next = added.map;
+    MapReplayed {
+        map: next,
+        right: judged.right,
+        bytes: judged.bytes,
+    }
+}
+
+fn replay_evaluation(call: &[u8], map: Tmesh) -> MapReplayed {
+    let evaluated = subs(map, float_at(call, 1), float_at(call, 9));
+    let answer = evaluated.answer;
+    let judged = judge_evaluation(answer, call);
+    let next = evaluated.map;
+    MapReplayed {
+        map: next,
+        right: judged.right,
+        bytes: judged.bytes,
+    }
+}
+
+fn ray_into(call: &[u8], store: Store, buffer: &mut [f64]) -> Judged {
+    let direction = TmeshDirection::numbered(byte_at(call, 2));
+    let outcome = cast_ray(closeness(), store, byte_at(call, 1), direction, buffer);
+    judge_ray(outcome, buffer, call)
+}
+
+// The buffer starts with no 0.0, so that a refused ray is seen to leave nothing else.
+fn replay_ray(call: &[u8], store: Store) -> Judged {
+    let mut buffer = [1.0; 5];
+    let length = wide(byte_at(call, 3));
+    if 5 < length {
+        return Judged {
+            right: false,
+            bytes: 0,
+        };
+    }
+    ray_into(call, store, &mut buffer[0..length])
+}
+
+// A call that leaves the map as it is: a ray, or a point's knots.
+fn replay_reading(kind: u8, call: &[u8], store: Store) -> Judged {
+    if kind == RAY {
+        return replay_ray(call, store);
+    }
+    judge_knots(
+        point_knot_vectors(closeness(), store, byte_at(call, 1)),
+        call,
+    )
+}
+
+// A call on the map's points: knots that are kept stay kept.
+fn replay_direct(kind: u8, call: &[u8], mut map: Tmesh) -> MapReplayed {
+    let mut mesh = map.mesh;
+    let store = mesh.store;
+    let replayed = replay_call(kind, call, store);
+    let next = replayed.store;
+    mesh.store = next;
+    map.mesh = mesh;
+    MapReplayed {
+        map,
+        right: replayed.right,
+        bytes: replayed.bytes,
+    }
+}
+
+fn replay(kind: u8, call: &[u8], map: Tmesh) -> MapReplayed {
+    if DIRECT <= kind {
+        return replay_direct(kind - DIRECT, call, map);
+    }
+    if kind == INSERTION {
+        return replay_insertion(call, map);
+    }
+    if kind == EVALUATION {
+        return replay_evaluation(call, map);
+    }
+    let store = map.mesh.store;
+    let judged = replay_reading(kind, call, store);
+    MapReplayed {
+        map,
+        right: judged.right,
+        bytes: judged.bytes,
+    }
+}
+
+// The map of the border weight and the corners that a list begins with.
+fn new_map(list: &[u8]) -> Tmesh {
+    let bottom_left = position_at(list, 8);
+    let bottom_right = position_at(list, 32);
+    let top_right = position_at(list, 56);
+    let top_left = position_at(list, 80);
+    Tmesh::new(
+        float_at(list, 0),
+        bottom_left,
+        bottom_right,
+        top_right,
+        top_left,
+    )
+}
+
+// Whether every call of a list answers what is stored, and the last leaves the map that is stored. A list that ends within its calls is wrong.
+fn is_right(list: &[u8]) -> bool {
+    let mut map = new_map(list);
+    let mut right = true;
+    let mut left = pair_at(list, 104);
+    let mut at: usize = CALLS;
+    if list.len() < CALLS {
+        return false;
+    }
+    while 0 < left {
+        let call = after(list, at);
+        let replayed = replay(byte_at(call, 0), call, map);
+        if list.len() - at < replayed.bytes {
+            return false;
+        }
+        right = both(right, replayed.right);
+        at += replayed.bytes;
+        let next = replayed.map;
+        map = next;
+        left -= 1;
+    }
+    let store = map.mesh.store;
+    let listed = map.mesh.listed;
+    both(
+        right,
+        map_is_right(store, listed, map.kept, after(list, at)),
+    )
+}
+
+// Fills so many bytes of a buffer, or says that there are no more.
+fn fill(descriptor: i32, buffer: &mut [u8], bytes: usize) -> bool {
+    if bytes <= buffer.len() {
+        return io::read_full(descriptor, &mut buffer[0..bytes]) == bytes;
+    }
+    false
+}
+
+fn judged(buffer: &[u8], bytes: usize) -> Outcome {
+    if bytes <= buffer.len() {
+        return outcome_of(is_right(&buffer[0..bytes]));
+    }
+    Outcome::Wrong
+}
+
+fn next_outcome(descriptor: i32) -> Outcome {
+    let mut length = [0u8; 2];
+    let mut list = io::large_buffer();
+    if !fill(descriptor, &mut length, 2) {
+        return Outcome::End;
+    }
+    let bytes = pair_at(&length, 0);
+    if !fill(descriptor, &mut list, bytes) {
+        return Outcome::Wrong;
+    }
+    judged(&list, bytes)
+}
+
+fn replayed(descriptor: i32) -> Tally {
+    let mut tally = Tally { right: 0, wrong: 0 };
+    let mut left = MOST_LISTS;
+    while 0 < left {
+        let outcome = next_outcome(descriptor);
+        if is_end(outcome) {
+            return tally;
+        }
+        tally = count_outcome(tally, outcome);
+        left -= 1;
+    }
+    tally
+}
+
+fn main() {
+    let descriptor = replay::open_cases();
+    if 0 <= descriptor {
+        replay::report(replayed(descriptor));
+        libc::close(descriptor);
+    }
+}
