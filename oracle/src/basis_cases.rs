@@ -75,7 +75,10 @@ fn parameter(random: &mut Random, a: &[f64; 5]) -> f64 {
     }
 }
 
-fn draw(random: &mut Random, kind: usize) -> ([f64; 5], f64, f64) {
+/// Five knots, a parameter and the answer.
+pub type Case = ([f64; 5], f64, f64);
+
+fn draw(random: &mut Random, kind: usize) -> Case {
     let a = knots(random, kind);
     let u = parameter(random, &a);
     let answer = basis_function(u, &a);
@@ -83,20 +86,32 @@ fn draw(random: &mut Random, kind: usize) -> ([f64; 5], f64, f64) {
     (a, u, answer)
 }
 
-/// Writes the cases. Where the answer is 0.0 every second draw is made again, so that fewer cases lie outside the knots.
+/// A case of a kind. Where the answer is 0.0 every second draw is made again, so that fewer cases lie outside the knots.
+pub fn drawn(random: &mut Random, place: usize) -> Case {
+    let mut case = draw(random, place % 12);
+    while case.2 == 0.0 && random.one_in(2) {
+        case = draw(random, place % 12);
+    }
+    case
+}
+
+pub fn encoded((a, u, answer): Case) -> Vec<u8> {
+    let mut out = Bytes::default();
+    out.float(u);
+    a.iter().for_each(|knot| out.float(*knot));
+    out.float(answer);
+    out.0
+}
+
+/// Writes the stored cases.
 pub fn write(seed: u64) {
     let mut random = Random::new(seed);
     let mut out = Bytes::default();
     let mut kinds = [0; 5];
-    for case in 0..CASES {
-        let (mut a, mut u, mut answer) = draw(&mut random, case % 12);
-        while answer == 0.0 && random.one_in(2) {
-            (a, u, answer) = draw(&mut random, case % 12);
-        }
-        kinds[kind_of(answer)] += 1;
-        out.float(u);
-        a.iter().for_each(|knot| out.float(*knot));
-        out.float(answer);
+    for place in 0..CASES {
+        let case = drawn(&mut random, place);
+        kinds[kind_of(case.2)] += 1;
+        out.0.extend(encoded(case));
     }
     println!(
         "answers: zero {}, positive {}, negative {}, infinite {}, NaN {}",

@@ -19,6 +19,12 @@ impl Bytes {
         self.0.extend(bits_of(x).to_be_bytes())
     }
 
+    /// The bytes after two that tell how many they are.
+    pub fn with_length(self) -> Vec<u8> {
+        let length = u16::try_from(self.0.len()).expect("a list is shorter than 65,536 bytes");
+        [&length.to_be_bytes()[..], &self.0].concat()
+    }
+
     pub fn write(&self, path: &str) {
         let folder = std::path::Path::new(path).parent().expect("a path with a folder");
         std::fs::create_dir_all(folder).expect("the folder can be made");

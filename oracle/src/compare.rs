@@ -4,10 +4,15 @@ use crate::calls::Call;
 use crate::draw::{MapList, Plan, full_map, map};
 use crate::map_calls::{MapAnswer, MapCall};
 use crate::random::Random;
+use crate::reading::Insertion;
 
-/// How often each answer occurs, by kind of call.
+/// How often each answer occurs, by kind of call; the links inferred, and the evaluations with a positive and finite weight.
 #[derive(Default)]
-pub struct Tally([[u64; 12]; 6]);
+pub struct Tally {
+    answers: [[u64; 12]; 6],
+    inferred: u64,
+    weighty: u64,
+}
 
 const WORDS: [&str; 6] = ["insertion", "ray", "knots", "evaluation", "direct call", "walk"];
 
@@ -21,15 +26,21 @@ impl Tally {
             MapCall::Direct(Call::Navigate(..)) => 5,
             MapCall::Direct(_) => 4,
         };
-        self.0[kind][answer.number() as usize] += 1;
+        self.answers[kind][answer.number() as usize] += 1;
+        match answer {
+            MapAnswer::Inserted(Insertion::Done(counts) | Insertion::Torn(counts, _)) => self.inferred += counts.inferred as u64,
+            MapAnswer::Evaluated(Ok(value)) => self.weighty += (value.weight > 0.0 && value.weight < f64::INFINITY) as u64,
+            _ => {}
+        }
     }
 
     pub fn print(&self) {
-        for (word, row) in WORDS.iter().zip(self.0) {
+        for (word, row) in WORDS.iter().zip(self.answers) {
             let counts: Vec<String> =
                 row.iter().enumerate().filter(|(_, n)| **n > 0).map(|(number, n)| format!("{number}: {n}")).collect();
             println!("{word:12} {}", counts.join(", "));
         }
+        println!("links inferred: {}; evaluations with a positive and finite weight: {}", self.inferred, self.weighty);
     }
 }
 

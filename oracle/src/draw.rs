@@ -55,14 +55,14 @@ fn border(random: &mut Random) -> f64 {
 
 /// How the ratios of one map are drawn.
 #[derive(Clone, Copy)]
-enum Ratios {
+pub enum Ratios {
     Quarters,
     Ends,
     NearMisses,
     Any,
 }
 
-fn ratio(random: &mut Random, ratios: Ratios) -> f64 {
+pub fn ratio(random: &mut Random, ratios: Ratios) -> f64 {
     if random.one_in(40) {
         return random.of(&[-0.0, 2.0, -0.25, f64::NAN, f64::INFINITY, 1.0000000000000002, -5e-324]);
     }
@@ -77,7 +77,7 @@ fn ratio(random: &mut Random, ratios: Ratios) -> f64 {
 }
 
 /// A listed point and a side of it that is a link, where a few draws find them.
-fn place(random: &mut Random, maps: &Maps) -> (u8, usize) {
+pub fn place(random: &mut Random, maps: &Maps) -> (u8, usize) {
     if random.one_in(30) {
         return (random.below(256) as u8, random.below(4));
     }
@@ -110,12 +110,16 @@ fn direct_call(random: &mut Random, maps: &Maps) -> Call {
     }
 }
 
-pub fn evaluation(random: &mut Random) -> MapCall {
-    let parameter = |random: &mut Random| match random.below(12) {
+/// A parameter in the map, on a knot as often as not, or outside.
+pub fn parameter(random: &mut Random) -> f64 {
+    match random.below(12) {
         0 => random.of(&[-0.5, -1.0, 1.5, 2.0, 5.0, f64::NAN, f64::INFINITY]),
         1..=6 => random.of(&[0.0, 0.125, 0.25, 0.375, 0.5, 0.75, 0.999999, 1.0]),
         _ => random.unit(),
-    };
+    }
+}
+
+pub fn evaluation(random: &mut Random) -> MapCall {
     MapCall::Evaluate { s: parameter(random), t: parameter(random) }
 }
 

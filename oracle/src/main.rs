@@ -1,5 +1,6 @@
 //! The comparison with the published T-mesh: README.md says what each word does.
 mod basis_cases;
+mod bound;
 mod bytes;
 mod calls;
 mod compare;
@@ -8,6 +9,7 @@ mod draw;
 mod map_cases;
 mod map_calls;
 mod original;
+mod proved;
 mod random;
 mod reading;
 mod store_cases;
@@ -26,8 +28,18 @@ fn main() {
             let seed = words.get(2).map_or(SEED, |word| word.parse().expect("a seed"));
             compare::run(seed, maps)
         }
+        Some("proved") => {
+            let count = words.get(1).map_or(50000, |word| word.parse().expect("a number of maps"));
+            let seed = words.get(2).map_or(SEED, |word| word.parse().expect("a seed"));
+            proved::compare(seed, count)
+        }
+        Some("bound") => {
+            let evaluations = words.get(1).map_or(1000000, |word| word.parse().expect("a number of evaluations"));
+            let seed = words.get(2).map_or(SEED, |word| word.parse().expect("a seed"));
+            proved::bound(seed, evaluations)
+        }
         Some("differences") => differences::show(),
         Some("published-side") => differences::published_side(words[1].parse().expect("the number of an example")),
-        _ => println!("words: basis store map compare differences"),
+        _ => println!("words: basis store map compare proved bound differences"),
     }
 }

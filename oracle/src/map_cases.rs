@@ -173,7 +173,8 @@ fn some_rays(list: &mut MapList, random: &mut Random) {
     list.call(evaluation(random));
 }
 
-fn put(out: &mut Bytes, list: &MapList) {
+/// A list's bytes, its length first.
+pub fn encoded(list: &MapList) -> Vec<u8> {
     list.maps.assert_same();
     let mut body = Bytes::default();
     body.float(list.maps.border);
@@ -184,8 +185,7 @@ fn put(out: &mut Bytes, list: &MapList) {
         put_map_answer(&mut body, answer);
     }
     put_map(&mut body, &list.maps.reading);
-    out.pair(u16::try_from(body.0.len()).expect("a list is shorter than 65,536 bytes"));
-    out.0.extend(body.0);
+    body.with_length()
 }
 
 pub fn write(seed: u64) {
@@ -210,7 +210,7 @@ pub fn write(seed: u64) {
         lists.push(list);
     }
     let mut out = Bytes::default();
-    lists.iter().for_each(|list| put(&mut out, list));
+    lists.iter().for_each(|list| out.0.extend(encoded(list)));
     print_table(&lists);
     out.write("crates/map_replay/data/cases");
 }

@@ -10,7 +10,7 @@ const RINGS: usize = 100;
 const FULL_STORES: usize = 6;
 
 /// A list in the making: the calls so far with their answers.
-struct List {
+pub struct List {
     both: Both,
     calls: Vec<(Call, Answer)>,
 }
@@ -18,6 +18,17 @@ struct List {
 impl List {
     fn new() -> List {
         List { both: Both::default(), calls: Vec::new() }
+    }
+
+    /// The calls made on a store that starts empty.
+    pub fn of(calls: &[Call]) -> List {
+        let mut list = List::new();
+        calls.iter().for_each(|call| list.call(*call));
+        list
+    }
+
+    pub fn made_calls(&self) -> Vec<Call> {
+        self.calls.iter().map(|(call, _)| *call).collect()
     }
 
     fn call(&mut self, call: Call) {
@@ -201,7 +212,8 @@ fn full_store(random: &mut Random, closed: bool) -> List {
     list
 }
 
-fn put(out: &mut Bytes, list: &List) {
+/// A list's bytes, its length first.
+pub fn encoded(list: &List) -> Vec<u8> {
     list.both.assert_same();
     let mut body = Bytes::default();
     body.pair(list.calls.len() as u16);
@@ -210,8 +222,17 @@ fn put(out: &mut Bytes, list: &List) {
         put_answer(&mut body, *answer);
     }
     put_points(&mut body, &list.both.reading.points);
-    out.pair(u16::try_from(body.0.len()).expect("a list is shorter than 65,536 bytes"));
-    out.0.extend(body.0);
+    body.with_length()
+}
+
+/// A list of any of the kinds.
+pub fn drawn(random: &mut Random, place: usize) -> List {
+    match place % 50 {
+        0 => full_store(random, place % 100 == 0),
+        1..=10 => grid(random),
+        11..=20 => ring(random, 2 + place % 9, place % 4),
+        _ => random_list(random),
+    }
 }
 
 pub fn write(seed: u64) {
@@ -223,7 +244,7 @@ pub fn write(seed: u64) {
     lists.extend((0..RINGS).map(|place| ring(&mut random, 2 + place % 9, place % 4)));
     lists.extend((0..FULL_STORES).map(|place| full_store(&mut random, place % 2 == 0)));
     let mut out = Bytes::default();
-    lists.iter().for_each(|list| put(&mut out, list));
+    lists.iter().for_each(|list| out.0.extend(encoded(list)));
     print_table(&lists);
     out.write("crates/store_replay/data/cases");
 }
