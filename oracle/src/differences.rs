@@ -17,7 +17,7 @@ struct Example {
     edits: &'static [(u8, usize, f64)],
 }
 
-const EXAMPLES: [Example; 9] = [
+const EXAMPLES: [Example; 11] = [
     Example { words: "six done edits that make a ring", border: 1.0, edits: RING_PREFIXES[0] },
     Example { words: "evaluation after done edits meets a ring", border: 1.0, edits: RING_PREFIXES[1] },
     Example { words: "insertion torn by a ring", border: 1.0, edits: RING_PREFIXES[2] },
@@ -26,6 +26,8 @@ const EXAMPLES: [Example; 9] = [
     Example { words: "falling knots", border: -1.0, edits: &[] },
     Example { words: "falling knots, both answer", border: -0.25, edits: &[] },
     Example { words: "a NaN among the knots", border: f64::NAN, edits: &[] },
+    Example { words: "no difference: lines that miss each other by less than a millionth are joined", border: 1.0, edits: &[(0, 1, 0.5), (3, 1, 0.5000009)] },
+    Example { words: "no difference: a search that fails", border: 1.0, edits: &[(0, 1, 0.0)] },
     Example { words: "no difference, to compare with", border: 1.0, edits: &[(0, 1, 0.5)] },
 ];
 
@@ -46,6 +48,11 @@ fn on_closed_line(store: &reading::Store, start: u8, d: usize) -> bool {
     false
 }
 
+/// How many two-way links there are.
+fn links(points: &[reading::Point]) -> usize {
+    points.iter().flat_map(|point| point.sides).filter(|side| side.is_link()).count() / 2
+}
+
 fn by_reading(example: &Example) -> String {
     let mut map = reading::Map::new(SQUARE, example.border);
     let mut answers = Vec::new();
@@ -56,6 +63,7 @@ fn by_reading(example: &Example) -> String {
             Insertion::Refused(number) => format!("refused {number}"),
         });
     }
+    let links = links(&map.store.points);
     let closed = (0..map.store.made() as u8)
         .flat_map(|start| (0..4).map(move |d| (start, d)))
         .filter(|&(start, d)| on_closed_line(&map.store, start, d))
@@ -64,7 +72,7 @@ fn by_reading(example: &Example) -> String {
         Ok(value) => hexadecimal(&[&value.position[..], &[value.weight]].concat()),
         Err(number) => format!("refused {number}"),
     };
-    format!("edits: {}; sides on closed lines: {closed}; evaluation: {value}", answers.join(", "))
+    format!("edits: {}; links: {links}; sides on closed lines: {closed}; evaluation: {value}", answers.join(", "))
 }
 
 /// What the published side prints when it runs by itself.
@@ -76,6 +84,7 @@ pub fn published_side(place: usize) {
         let number = map.add_control_point([0.5; 3], con, direction, ratio);
         print!("{number} ");
     }
+    print!("links: {} ", links(&map.store.read()));
     match map.subs(0.5, 0.5) {
         Ok(position) => println!("evaluation: {}", hexadecimal(&position)),
         Err(number) => println!("evaluation: refused {number}"),
