@@ -7,7 +7,7 @@ use lib.Dec.{eqb}
 use lib.Ieee.{Float, binary64, toBits}
 use Rattle.basis.specs.Binary64.{binary64Arithmetic, knots}
 use Rattle.basis.specs.Formula.{formula}
-use Rattle.stored_numbers.specs.BigEndian.{numberAt, floatAt}
+use Rattle.big_endian.specs.BigEndian.{numberAt, floatAt}
 
 -- the knots of a case
 abbrev pub knotsOf : List ℕ → List Float

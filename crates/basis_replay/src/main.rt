@@ -17,11 +17,11 @@ fn knots_of(case: &[u8]) -> [f64; 5]
     ensures { λ r. ⌜ r ≡ knotsOf (now (case .entry)) ⌝ }
 {
     [
-        stored_numbers::float_at(case, 8),
-        stored_numbers::float_at(case, 16),
-        stored_numbers::float_at(case, 24),
-        stored_numbers::float_at(case, 32),
-        stored_numbers::float_at(case, 40),
+        big_endian::float_at(case, 8),
+        big_endian::float_at(case, 16),
+        big_endian::float_at(case, 24),
+        big_endian::float_at(case, 32),
+        big_endian::float_at(case, 40),
     ]
 }
 
@@ -29,8 +29,8 @@ fn knots_of(case: &[u8]) -> [f64; 5]
 fn is_right(case: &[u8]) -> bool
     ensures { λ r. ⌜ r ≡ isRight (now (case .entry)) ⌝ }
 {
-    let value = basis::basis_function(stored_numbers::float_at(case, 0), knots_of(case));
-    float64::to_bits(value) == stored_numbers::number_at(case, 48)
+    let value = basis::basis_function(big_endian::float_at(case, 0), knots_of(case));
+    float64::to_bits(value) == big_endian::number_at(case, 48)
 }
 
 fn next_outcome(descriptor: i32) -> Outcome {

@@ -16,8 +16,8 @@ use Rattle.control_point.specs.declared.t_mesh_direction.TmeshDirection.{TmeshD
 use Rattle.control_point.specs.declared.t_mesh_control_point.Side.{Side}
 use Rattle.control_point.specs.declared.t_mesh_control_point.Side.the-variants.{Link, Border, Opening}
 use Rattle.control_point.specs.declared.t_mesh_control_point.TmeshControlPoint.{TmeshControlPoint}
-use Rattle.control_point.specs.declared.walk.Walk.{Walk}
-use Rattle.control_point.specs.declared.walk.Walk.the-variants.{Reached, Refused as NoWalk}
+use Rattle.navigation.specs.declared.walk.Walk.{Walk}
+use Rattle.navigation.specs.declared.walk.Walk.the-variants.{Reached, Refused as NoWalk}
 use Rattle.search.specs.declared.search.Found.{Found}
 use Rattle.search.specs.declared.search.Found.the-variants.{At, Nothing, Failed}
 use Rattle.store.specs.Store.{storePoint}
@@ -25,8 +25,8 @@ use Rattle.store.specs.declared.store.Store.{Store}
 use Rattle.insertion.specs.declared.across.NewSide.{NewSide}
 use Rattle.insertion.specs.declared.across.NewSide.the-variants.{Takes, Joins, Opens, Tears, Stays}
 use Rattle.ray.specs.Ray.{Ray, entries, refused}
-use Rattle.ray.specs.declared.entry.Entry.{Entry}
-use Rattle.ray.specs.declared.entry.Entry.the-variants.{Is, Refused as NoEntry}
+use Rattle.ray_entry.specs.declared.entry.Entry.{Entry}
+use Rattle.ray_entry.specs.declared.entry.Entry.the-variants.{Is, Refused as NoEntry}
 use Rattle.ray.specs.declared.knots.PointKnots.{PointKnots}
 use Rattle.evaluation.specs.Evaluation.{noKnots}
 

@@ -19,24 +19,24 @@ use Rattle.control_point.specs.declared.t_mesh_direction.TmeshDirection.{TmeshD
 use Rattle.control_point.specs.declared.t_mesh_direction.TmeshDirection.the-variants.{Up, Right, Down, Left}
 use Rattle.control_point.specs.declared.t_mesh_control_point.Side.{Side}
 use Rattle.control_point.specs.declared.t_mesh_control_point.Side.the-variants.{Link, Border, Opening}
-use Rattle.control_point.specs.declared.walk.Walk.{Walk}
-use Rattle.control_point.specs.declared.walk.Walk.the-variants.{Reached, Refused as NoWalk}
+use Rattle.navigation.specs.declared.walk.Walk.{Walk}
+use Rattle.navigation.specs.declared.walk.Walk.the-variants.{Reached, Refused as NoWalk}
 use Rattle.store.specs.Store.{storeSides, storePoint}
 use Rattle.store.specs.declared.store.Store.{Store}
-use Rattle.ray.specs.Approach.{approachOf}
-use Rattle.ray.specs.Entry.{afterWalk, cornerWalk, faceWalk, sideEntry, pointEntry, overFace, aroundFace, afterApproach, entryOf}
+use Rattle.ray_entry.specs.Approach.{approachOf}
+use Rattle.ray_entry.specs.Entry.{afterWalk, cornerWalk, faceWalk, sideEntry, pointEntry, overFace, aroundFace, afterApproach, entryOf}
 use Rattle.ray.specs.Ray.{Ray, entries, refused, before, afterEntry, rayFrom, rayOf}
 use Rattle.ray.specs.Knots.{first, second, fiveKnots, afterRay, knotsAt, pointKnotVectors}
-use Rattle.ray.specs.declared.approach.Approach.{Approach}
-use Rattle.ray.specs.declared.approach.Approach.the-variants.{Aligned, Crossed, Refused as NoApproach}
-use Rattle.ray.specs.declared.entry.Entry.{Entry}
-use Rattle.ray.specs.declared.entry.Entry.the-variants.{Is, Refused as NoEntry}
-use Rattle.ray.specs.declared.entry.Front.{Front}
+use Rattle.ray_entry.specs.declared.approach.Approach.{Approach}
+use Rattle.ray_entry.specs.declared.approach.Approach.the-variants.{Aligned, Crossed, Refused as NoApproach}
+use Rattle.ray_entry.specs.declared.entry.Entry.{Entry}
+use Rattle.ray_entry.specs.declared.entry.Entry.the-variants.{Is, Refused as NoEntry}
+use Rattle.ray_entry.specs.declared.entry.Front.{Front}
 use Rattle.ray.specs.declared.knots.KnotsAnswer.{KnotsAnswer}
 use Rattle.ray.specs.declared.knots.PointKnots.{PointKnots}
-use Rattle.t_mesh.specs.Tmesh.{isListed, blankKnots}
+use Rattle.t_mesh.specs.Tmesh.{storeOf, isListed, blankKnots}
 use Rattle.t_mesh.specs.declared.t_mesh.Tmesh.{Tmesh}
-use Rattle.evaluation.specs.Knots.{AllKnots, all, none, onAll, inRow, withRow, rowsFrom, allKnots}
+use Rattle.knot_vectors.specs.Knots.{AllKnots, all, none, onAll, inRow, withRow, rowsFrom, allKnots}
 use Rattle.evaluation.specs.Evaluation.{noKnots as noRow}
 use Rattle.mirror.specs.BoolLaws.{cond-case}
 use Rattle.calls.specs.ListLaws.{set-case}
@@ -170,7 +170,7 @@ abbrev pub GoodAll : AllKnots → Type 0
 GoodAll (all rows) = GoodRows rows
 GoodAll (none refusal) = Unit {0}
 
-module _ (e : Float) (map : Tmesh) (good : GoodStore (map .mesh .store)) where
+module _ (e : Float) (map : Tmesh) (good : GoodStore (storeOf map)) where
   in-row : (outcome : Outcome) (k : PointKnots) (n : ℕ) (rows : List PointKnots) → GoodKnots k → GoodRows rows → GoodAll (inRow outcome k n rows)
   in-row Done k n rows h g = λ m. set-case GoodKnots rows n m k noRow h (g m)
   in-row (Refused refusal) k n rows h g = tt
@@ -178,7 +178,7 @@ module _ (e : Float) (map : Tmesh) (good : GoodStore (map .mesh .store)) where
   with-row : (n : ℕ) (rows : List PointKnots) → GoodRows rows → GoodAll (withRow e map n rows)
   with-row n rows g =
       cond-case (isListed map n) GoodAll _ _
-      (λ _. in-row (pointKnotVectors e (map .mesh .store) n .outcome) _ n rows (point-knots e (map .mesh .store) good n) g)
+      (λ _. in-row (pointKnotVectors e (storeOf map) n .outcome) _ n rows (point-knots e (storeOf map) good n) g)
       (λ _. g)
 
   on-all : (so-far : AllKnots) (next : List PointKnots → AllKnots) → GoodAll so-far → ((rows : List PointKnots) → GoodRows rows → GoodAll (next rows))

@@ -14,7 +14,7 @@ use Rattle.control_point.specs.Direction.{flipOf, clockwiseOf, antiClockwiseOf,
 use Rattle.control_point.specs.Point.{sideOf, withSide, movedFrom, loosePoint, isMade, isLink, blank}
 use Rattle.control_point.specs.PointLaws.{side-with, side-moved}
 use Rattle.control_point.specs.Sides.{Sides, sidesOf, sidesWith}
-use Rattle.control_point.specs.Walk.{stepOver, arrive, onward, walkOf}
+use Rattle.navigation.specs.Walk.{stepOver, arrive, onward, walkOf}
 use Rattle.control_point.specs.declared.refusal.Outcome.{Outcome}
 use Rattle.control_point.specs.declared.refusal.Outcome.the-variants.{Done, Refused}
 use Rattle.control_point.specs.declared.t_mesh_direction.TmeshDirection.{TmeshDirection}
@@ -22,8 +22,8 @@ use Rattle.control_point.specs.declared.t_mesh_direction.TmeshDirection.the-var
 use Rattle.control_point.specs.declared.t_mesh_control_point.Side.{Side}
 use Rattle.control_point.specs.declared.t_mesh_control_point.Side.the-variants.{Link, Border, Opening}
 use Rattle.control_point.specs.declared.t_mesh_control_point.TmeshControlPoint.{TmeshControlPoint}
-use Rattle.control_point.specs.declared.walk.Walk.{Walk}
-use Rattle.control_point.specs.declared.walk.Walk.the-variants.{Reached, Refused as NoWalk}
+use Rattle.navigation.specs.declared.walk.Walk.{Walk}
+use Rattle.navigation.specs.declared.walk.Walk.the-variants.{Reached, Refused as NoWalk}
 use Rattle.search.specs.Search.{judgeAt, concluded, moveOver, seekFrom, walked, findInferredConnection}
 use Rattle.search.specs.declared.search.Found.{Found}
 use Rattle.search.specs.declared.search.Found.the-variants.{At, Nothing, Failed}

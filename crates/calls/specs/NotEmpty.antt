@@ -14,7 +14,7 @@ use Rattle.control_point.specs.declared.t_mesh_control_point.Side.the-variants.
 use Rattle.control_point.specs.declared.t_mesh_direction.TmeshDirection.the-variants.{Right}
 use Rattle.store.specs.Store.{storeSides}
 use Rattle.insertion.specs.declared.insertion.InsertAnswer.the-variants.{Done, Torn}
-use Rattle.t_mesh.specs.Tmesh.{Axis, X, coordinate, isListed, newTmesh}
+use Rattle.t_mesh.specs.Tmesh.{Axis, X, coordinate, storeOf, isListed, newTmesh}
 use Rattle.t_mesh.specs.declared.t_mesh.Position.{Position}
 use Rattle.t_mesh.specs.declared.t_mesh.Tmesh.{Tmesh}
 use Rattle.evaluation.specs.Evaluation.{onAxis, positionOf}
@@ -121,7 +121,7 @@ TornRun =
 abbrev pub TornStands : Type 0
 TornStands =
     (positionOf (mapAfter millionth plate tearing) 4 ≡ outside)
-    × ((storeSides (mapAfter millionth plate tearing .mesh .store) 0 Right ≡ Link 4 zeroLiteral)
+    × ((storeSides (storeOf (mapAfter millionth plate tearing)) 0 Right ≡ Link 4 zeroLiteral)
     × (isListed (mapAfter millionth plate tearing) 4 ≡ false))
 
 -- the premises hold on every axis, the torn point stands in the mesh, and the evaluation lies in 0 to 1

@@ -8,19 +8,19 @@ use Rattle.control_point.specs.Connect.{connectable}
 use Rattle.control_point.specs.Point.{isMade}
 use Rattle.control_point.specs.Sides.{sidesOf}
 use Rattle.control_point.specs.Small.{millionth, small}
-use Rattle.control_point.specs.Walk.{onward, walkOf}
+use Rattle.navigation.specs.Walk.{onward, walkOf}
 use Rattle.control_point.specs.declared.refusal.Refusal.the-variants.{BorderSide}
 use Rattle.control_point.specs.declared.t_mesh_direction.TmeshDirection.the-variants.{Right}
 use Rattle.search.specs.Search.{judgeAt, seekFrom, findInferredConnection}
 use Rattle.store.specs.Store.{connectPoints}
 use Rattle.insertion.specs.Insert.{inUnit, checked, checkedIntervals, placed, newSide, firstSide, withFirst, secondSide, sided, insertPoint}
 use Rattle.insertion.specs.declared.insertion.InsertAnswer.the-variants.{Done, Torn, Refused}
-use Rattle.ray.specs.Approach.{approachIn, approachOf}
+use Rattle.ray_entry.specs.Approach.{approachIn, approachOf}
 use Rattle.ray.specs.Ray.{rayFrom, rayOf}
 use Rattle.ray.specs.Knots.{knotsAt, pointKnotVectors}
 use Rattle.t_mesh.specs.Tmesh.{Axis, X, Y, Z, coordinate, newTmesh}
 use Rattle.t_mesh.specs.Insertion.{addControlPoint}
-use Rattle.evaluation.specs.Knots.{rowsFrom, allKnots, generateKnotVectors}
+use Rattle.knot_vectors.specs.Knots.{rowsFrom, allKnots, generateKnotVectors}
 use Rattle.evaluation.specs.Evaluation.{onAxis, sumFrom, valueOf, withKnots, subsOf}
 use Rattle.evaluation.specs.declared.evaluation.EvaluationAnswer.the-variants.{Is}
 use Rattle.calls.specs.Calls.{Call, insertion, evaluation, Answer, inserted, evaluated, Event, runOf}

@@ -11,7 +11,7 @@ use Rattle.basis.specs.Formula.{formula}
 use Rattle.control_point.specs.Point.{isLink, minusOne}
 use Rattle.control_point.specs.Sides.{Sides}
 use Rattle.control_point.specs.Small.{millionth}
-use Rattle.control_point.specs.Walk.{walkNumber}
+use Rattle.navigation.specs.Walk.{walkNumber}
 use Rattle.control_point.specs.declared.refusal.Outcome.the-variants.{Done as Built}
 use Rattle.control_point.specs.declared.refusal.Refusal.the-variants.{BorderSide}
 use Rattle.control_point.specs.declared.t_mesh_control_point.Side.the-variants.{Link}
@@ -24,7 +24,7 @@ use Rattle.insertion.specs.declared.insertion.InsertAnswer.the-variants.{Done, 
 use Rattle.ray.specs.Ray.{castRay}
 use Rattle.ray.specs.Knots.{pointKnotVectors}
 use Rattle.ray.specs.declared.knots.KnotsAnswer.{KnotsAnswer}
-use Rattle.t_mesh.specs.Tmesh.{newTmesh}
+use Rattle.t_mesh.specs.Tmesh.{storeOf, newTmesh}
 use Rattle.t_mesh.specs.Insertion.{addControlPoint}
 use Rattle.t_mesh.specs.declared.t_mesh.Position.{Position}
 use Rattle.t_mesh.specs.declared.t_mesh.Tmesh.{Tmesh}
@@ -52,7 +52,7 @@ linksBelow sides (suc n) = linksBelow sides n + (cond (isLink (sides n Up)) 1 0 
 
 -- the two-way links of a map, each counted at its lower or its left end
 abbrev pub linkCount : Tmesh → ℕ
-linkCount map = linksBelow (storeSides (map .mesh .store)) (map .mesh .store .made)
+linkCount map = linksBelow (storeSides (storeOf map)) (storeOf map .made)
 
 -- ---- the two loose points of the last reading
 -- a point's right and left sides opened
@@ -79,7 +79,7 @@ module _ (bottomLeft bottomRight topRight topLeft position : Position) where
 
   -- the knots of a corner of the fresh map
   abbrev pub knotsOnPlate : ℕ → KnotsAnswer
-  knotsOnPlate n = pointKnotVectors millionth (plate .mesh .store) n
+  knotsOnPlate n = pointKnotVectors millionth (storeOf plate) n
 
   -- after ratio 0.0 from 0 Right; after 0.5 from 0 Right; and then 0.5 from 3 Right
   abbrev pub torn : Added
@@ -103,24 +103,24 @@ module _ (bottomLeft bottomRight topRight topLeft position : Position) where
     pub ratio-one : inserted plate 0 Right oneLiteral .answer ≡ Done 1 0
     -- ratio 0.0 from 0 Right: torn, opened 1, made 5, listed 4
     pub ratio-zero : torn .answer ≡ Torn 1 0 BorderSide
-    pub ratio-zero-made : torn .map .mesh .store .made ≡ 5
+    pub ratio-zero-made : storeOf (torn .map) .made ≡ 5
     pub ratio-zero-listed : countTrue (torn .map .mesh .listed) ≡ 4
     -- a next insertion from 4, in any direction: 2
     pub from-torn : (d : TmeshDirection) → answerNumber (inserted (torn .map) 4 d half .answer) ≡ 2
     -- 0.5 from 0 Right, then from 3 Right: the second infers 5 to 4 at 1.0; 7 links
     pub second-infers : afterBoth .answer ≡ Done 1 1
-    pub five-to-four : storeSides (afterBoth .map .mesh .store) 5 Down ≡ Link 4 oneLiteral
-    pub four-to-five : storeSides (afterBoth .map .mesh .store) 4 Up ≡ Link 5 oneLiteral
+    pub five-to-four : storeSides (storeOf (afterBoth .map)) 5 Down ≡ Link 4 oneLiteral
+    pub four-to-five : storeSides (storeOf (afterBoth .map)) 4 Up ≡ Link 5 oneLiteral
     pub seven-links : linkCount (afterBoth .map) ≡ 7
     -- after the first alone, point 4's ray Up, length 2: 1.0, 1.0, whatever stood in the buffer
     pub ray-up : (x y : Float)
-        → castRay millionth (afterFirst .map .mesh .store) 4 Up (x ∷ (y ∷ [])) ≡ (Built, oneLiteral ∷ (oneLiteral ∷ []))
+        → castRay millionth (storeOf (afterFirst .map)) 4 Up (x ∷ (y ∷ [])) ≡ (Built, oneLiteral ∷ (oneLiteral ∷ []))
     -- from 0 Left: 4
     pub from-border : answerNumber (inserted plate 0 Left half .answer) ≡ 4
     -- the ray from 0 Left, length 3: 1.0, 0.0, 0.0; length 0: empty
     pub ray-left : (x y z : Float)
-        → castRay millionth (plate .mesh .store) 0 Left (x ∷ (y ∷ (z ∷ []))) ≡ (Built, oneLiteral ∷ (zeroLiteral ∷ (zeroLiteral ∷ [])))
-    pub ray-empty : castRay millionth (plate .mesh .store) 0 Left [] ≡ (Built, [])
+        → castRay millionth (storeOf plate) 0 Left (x ∷ (y ∷ (z ∷ []))) ≡ (Built, oneLiteral ∷ (zeroLiteral ∷ (zeroLiteral ∷ [])))
+    pub ray-empty : castRay millionth (storeOf plate) 0 Left [] ≡ (Built, [])
     -- two loose points linked Right both ways: a walk Right watching Up is 9
     pub ring : walkNumber (navigateUntilCon linkedBothWays 0 Right Up) ≡ 9
 

@@ -6,11 +6,11 @@ use Rattle.control_point.specs.Connect.{connectable}
 use Rattle.control_point.specs.Point.{isMade}
 use Rattle.control_point.specs.Sides.{sidesOf}
 use Rattle.control_point.specs.Small.{millionth, small}
-use Rattle.control_point.specs.Walk.{onward, walkOf}
+use Rattle.navigation.specs.Walk.{onward, walkOf}
 use Rattle.search.specs.Search.{judgeAt, seekFrom, findInferredConnection}
 use Rattle.store.specs.Store.{emptyStore, makeLoose, connectPoints, removeEdgeCondition}
 use Rattle.insertion.specs.Insert.{inUnit, checked, checkedIntervals, placed, newSide, firstSide, withFirst, secondSide, sided, insertPoint}
-use Rattle.ray.specs.Approach.{approachIn, approachOf}
+use Rattle.ray_entry.specs.Approach.{approachIn, approachOf}
 use Rattle.ray.specs.Ray.{rayFrom, rayOf}
 use Rattle.ray.specs.Knots.{knotsAt, pointKnotVectors}
 use Rattle.t_mesh.specs.Tmesh.{newTmesh}

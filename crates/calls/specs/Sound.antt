@@ -6,7 +6,7 @@ use mathlib.Core.List.{List, [], _∷_}
 use lib.Dec.{T}
 use lib.Ieee.{inf, lt}
 use Rattle.float64.specs.Sign.{0f}
-use Rattle.t_mesh.specs.Tmesh.{Axis, coordinate}
+use Rattle.t_mesh.specs.Tmesh.{Axis, coordinate, storeOf}
 use Rattle.t_mesh.specs.declared.t_mesh.Position.{Position}
 use Rattle.t_mesh.specs.declared.t_mesh.Tmesh.{Tmesh}
 use Rattle.evaluation.specs.Evaluation.{onAxis}
@@ -23,7 +23,7 @@ ListedInUnit axis (listed ∷ more) (position ∷ positions) = (listed ≡ true 
 
 -- the mesh, the rows of knots, and the listed points
 pub record Sound (axis : Axis) (map : Tmesh) : Type 0 where
-  pub mesh : GoodStore (map .mesh .store)
+  pub mesh : GoodStore (storeOf map)
   pub rows : GoodRows (map .knots)
   pub points : ListedInUnit axis (map .mesh .listed) (map .mesh .positions)
 

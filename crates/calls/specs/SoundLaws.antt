@@ -26,14 +26,14 @@ use Rattle.store.specs.declared.store.Store.{Store}
 use Rattle.insertion.specs.Insert.{insertPoint}
 use Rattle.insertion.specs.declared.insertion.InsertAnswer.{InsertAnswer}
 use Rattle.insertion.specs.declared.insertion.InsertAnswer.the-variants.{Done, Torn, Refused}
-use Rattle.t_mesh.specs.Tmesh.{Axis, X, Y, Z, coordinate, isListed, corner, cornerStore, origin, blankKnots, newTmesh}
+use Rattle.t_mesh.specs.Tmesh.{Axis, X, Y, Z, coordinate, storeOf, isListed, corner, cornerStore, origin, blankKnots, newTmesh}
 use Rattle.t_mesh.specs.Insertion.{afterInsertion, addControlPoint}
 use Rattle.t_mesh.specs.declared.t_mesh.Position.{Position}
 use Rattle.t_mesh.specs.declared.t_mesh.Tmesh.{Tmesh}
-use Rattle.evaluation.specs.Knots.{AllKnots, all, none, allKnots, keeping, generateKnotVectors}
+use Rattle.knot_vectors.specs.Knots.{AllKnots, all, none, allKnots, keeping, generateKnotVectors}
 use Rattle.evaluation.specs.Evaluation.{noKnots, noPosition, positionOf, knotsOf, weightOf, shareOf, sumFrom, totalWeight, meanOn, valueOf, withKnots, subsOf, evaluatedBy}
 use Rattle.evaluation.specs.declared.evaluation.EvaluationAnswer.the-variants.{Is}
-use Rattle.evaluation.specs.declared.knots.Generated.{Generated}
+use Rattle.knot_vectors.specs.declared.knots.Generated.{Generated}
 use Rattle.calls.specs.Calls.{evaluated}
 use Rattle.calls.specs.FullStroke.{InUnit}
 use Rattle.mirror.specs.BoolLaws.{cond-case}
@@ -115,12 +115,12 @@ pub insertion-sound : (axis : Axis) (e : Float) (map : Tmesh) → Sound axis map
     → Sound axis (addControlPoint e map con d ratio position .map)
 unfolding addControlPoint
 insertion-sound axis e map sound con d ratio position =
-    by-answer (insertPoint e (map .mesh .store) (isListed map con) con d ratio .answer)
-    (insertPoint e (map .mesh .store) (isListed map con) con d ratio .store)
-    (point-inserted (map .mesh .store) (sound .mesh) con d ratio e (isListed map con))
+    by-answer (insertPoint e (storeOf map) (isListed map con) con d ratio .answer)
+    (insertPoint e (storeOf map) (isListed map con) con d ratio .store)
+    (point-inserted (storeOf map) (sound .mesh) con d ratio e (isListed map con))
   where
     next : ℕ
-    next = map .mesh .store .made
+    next = storeOf map .made
 
     listing : (now : Bool) → (now ≡ true → InUnit (coordinate axis position))
         → ListedInUnit axis (set (map .mesh .listed) next now) (set (map .mesh .positions) next position)

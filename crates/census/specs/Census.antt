@@ -11,7 +11,7 @@ use Rattle.control_point.specs.declared.t_mesh_direction.TmeshDirection.{TmeshD
 use Rattle.control_point.specs.declared.t_mesh_direction.TmeshDirection.the-variants.{Up, Right}
 use Rattle.store.specs.Store.{storeSides}
 use Rattle.store.specs.declared.store.Store.{Store}
-use Rattle.t_mesh.specs.Tmesh.{isListed}
+use Rattle.t_mesh.specs.Tmesh.{storeOf, isListed}
 use Rattle.t_mesh.specs.declared.t_mesh.Tmesh.{Tmesh}
 use Rattle.census.specs.declared.census.Counts.{Counts}
 use Rattle.census.specs.declared.census.Openings.{Openings}
@@ -29,9 +29,9 @@ hasLink store d n = isMade (store .made) n && isLink (storeSides store n d)
 unfoldable pub countsOf : Tmesh → Counts
 countsOf map =
     record {
-      made = map .mesh .store .made;
+      made = storeOf map .made;
       listed = countBelow 128 (isListed map);
-      links = countBelow 128 (hasLink (map .mesh .store) Up) + countBelow 128 (hasLink (map .mesh .store) Right);
+      links = countBelow 128 (hasLink (storeOf map) Up) + countBelow 128 (hasLink (storeOf map) Right);
     }
 
 -- ---- the openings

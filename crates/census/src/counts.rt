@@ -13,6 +13,7 @@ use control_point::t_mesh_control_point::side_of;
 use control_point::t_mesh_direction::TmeshDirection;
 use store::store::Store;
 use t_mesh::t_mesh::Tmesh;
+use t_mesh::t_mesh::store_of;
 
 fn one_if(test: bool) -> u8
     ensures { λ r. ⌜ r ≡ cond test 1 0 ⌝ }
@@ -71,7 +72,7 @@ fn wide_sum(a: u8, b: u8) -> u16
 pub fn counts(map: Tmesh) -> Counts
     ensures { λ r. ⌜ r ≡ countsOf map ⌝ }
 {
-    let store = map.mesh.store;
+    let store = store_of(map.mesh);
     let listed = map.mesh.listed;
     let up = count_links(store, TmeshDirection::Up);
     let right = count_links(store, TmeshDirection::Right);

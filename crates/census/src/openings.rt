@@ -37,16 +37,23 @@ fn with_opening(list: Openings, n: u8, direction: u8) -> Openings
     longer
 }
 
+// Whether a point is made, and its side in the direction of a number is an opening.
+pub fn is_open(made: u8, n: u8, point: TmeshControlPoint, direction: u8) -> bool
+    ensures { λ r. ⌜ r ≡ (isMade made n && isOpening (sideOf point (directionNumbered direction))) ⌝ }
+{
+    if is_made(made, n) {
+        return is_opening(side_of(point, TmeshDirection::numbered(direction)));
+    }
+    false
+}
+
 // The list after a side: longer by it where it is an opening and its point is made, else as it was.
 fn after_side(list: Openings, made: u8, n: u8, point: TmeshControlPoint, direction: u8) -> Openings
     requires { ⌜ list .count < 512 ⌝ }
     ensures { λ r. ⌜ Grown list (isMade made n && isOpening (sideOf point (directionNumbered direction))) n direction r ⌝ }
 {
-    if is_made(made, n) {
-        let side = side_of(point, TmeshDirection::numbered(direction));
-        if is_opening(side) {
-            return with_opening(list, n, direction);
-        }
+    if is_open(made, n, point, direction) {
+        return with_opening(list, n, direction);
     }
     list
 }

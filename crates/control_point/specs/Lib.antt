@@ -4,8 +4,7 @@ pub mod Small
 pub mod Point
 pub mod Sides
 pub mod Connect
-pub mod Walk
 pub mod DirectionLaws
 pub mod PointLaws
 pub mod SidesLaws
-pub mod WalkLaws
+pub mod ConnectLaws

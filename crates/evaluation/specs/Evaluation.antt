@@ -17,8 +17,8 @@ use Rattle.ray.specs.declared.knots.PointKnots.{PointKnots}
 use Rattle.t_mesh.specs.Tmesh.{Axis, X, Y, Z, coordinate, isListed}
 use Rattle.t_mesh.specs.declared.t_mesh.Position.{Position}
 use Rattle.t_mesh.specs.declared.t_mesh.Tmesh.{Tmesh}
-use Rattle.evaluation.specs.Knots.{generateKnotVectors}
-use Rattle.evaluation.specs.declared.knots.Generated.{Generated}
+use Rattle.knot_vectors.specs.Knots.{generateKnotVectors}
+use Rattle.knot_vectors.specs.declared.knots.Generated.{Generated}
 use Rattle.evaluation.specs.declared.evaluation.Evaluation.{Evaluation}
 use Rattle.evaluation.specs.declared.evaluation.EvaluationAnswer.{EvaluationAnswer}
 use Rattle.evaluation.specs.declared.evaluation.EvaluationAnswer.the-variants.{Is, Refused}

@@ -12,11 +12,11 @@ use Rattle.control_point.specs.declared.refusal.Outcome.the-variants.{Done}
 use Rattle.t_mesh.specs.Tmesh.{X, Y, Z, isListed}
 use Rattle.t_mesh.specs.declared.t_mesh.Tmesh.{Tmesh}
 use Rattle.evaluation.specs.Evaluation.{knotsOf, positionOf, weightOf, shareOf, shareBy, sumFrom, sumOf, valueOf, answerBy, evaluatedBy, withKnots, subsOf}
-use Rattle.evaluation.specs.Knots.{generateKnotVectors}
+use Rattle.knot_vectors.specs.Knots.{generateKnotVectors}
 use Rattle.evaluation.specs.declared.evaluation.Evaluation.{Evaluation}
 use Rattle.evaluation.specs.declared.evaluation.EvaluationAnswer.{EvaluationAnswer}
 use Rattle.evaluation.specs.declared.evaluation.Share.{Share}
-use Rattle.evaluation.specs.declared.knots.Generated.{Generated}
+use Rattle.knot_vectors.specs.declared.knots.Generated.{Generated}
 
 -- the sum of the parts below n
 abbrev pub Standing : Tmesh → (ℕ → Float) → ℕ → Float → Type 0

@@ -1,4 +1,2 @@
-pub mod Knots
 pub mod Evaluation
-pub mod KnotsLaws
 pub mod EvaluationLaws

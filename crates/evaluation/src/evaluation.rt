@@ -2,10 +2,10 @@
 ghost use mathlib.Core.Path.{_≡_};
 ghost use Rattle.control_point.specs.Small.{millionth};
 ghost use Rattle.evaluation.specs.Evaluation.{evaluationNumber, shareBy, answerBy, subsOf, weighty, setPoint};
-use crate::knots::generate_knot_vectors;
 use basis::basis_function;
 use control_point::refusal::Outcome;
 use control_point::refusal::Refusal;
+use knot_vectors::knots::generate_knot_vectors;
 use ray::knots::PointKnots;
 use t_mesh::t_mesh::Position;
 use t_mesh::t_mesh::Tmesh;

@@ -1,3 +1,2 @@
-// Evaluation of a map: the knots of its listed points, the surface at a place, and the set-point.
+// Evaluation of a map: the surface at a place, and the set-point.
 pub mod evaluation;
-pub mod knots;

@@ -38,7 +38,7 @@ use Rattle.store.specs.StoreLaws.{side-read, room-kept, sides-side, sides-new, 
 use Rattle.store.specs.declared.store.Changed.{Changed}
 use Rattle.store.specs.declared.store.Store.{Store}
 use Rattle.insertion.specs.Insert.{inUnit, checkedIntervals, checkedFacing, checkedSide, checked, cut, pointInLine, parted, nearJoined, farJoined, placed, soughtSide, borderOr, newSide, withNewSide, unlessTorn, openedCount, inferredCount, tornOr, answerOf, firstSide, withFirst, secondSide, sided, passed, insertPoint}
-use Rattle.insertion.specs.Points.{madeSide, indexOf, linkEnd, joinedNumber, pointsWithNew, sidesWithNew, newSides}
+use Rattle.insertion.specs.Points.{madeSide, indexOf, joinedNumber, pointsWithNew, sidesWithNew, newSides}
 use Rattle.insertion.specs.PlacingLaws.{with-with, placedPoints, storedPoints, placed-stored}
 use Rattle.insertion.specs.declared.across.NewSide.{NewSide}
 use Rattle.insertion.specs.declared.across.NewSide.the-variants.{Takes, Joins, Opens, Tears, Stays}
@@ -399,7 +399,7 @@ module _ (e ratio : Float) (listed : Bool) (store : Store) (con : ℕ) (d g : Tm
   facing-made true Opening = refl
   facing-made false side = refl
 
-  pub checked-read : let side = sideOf (pointAt (store .points) (indexOf (store .made) con)) d in
+  checked-read : let side = sideOf (pointAt (store .points) (indexOf (store .made) con)) d in
       checked e ratio listed (store .made) (madeSide (store .made) con side) (λ other. madeSide (store .made) other (sideOf (pointAt (store .points) (indexOf (store .made) (linkedOf side))) g))
       ≡ checked e ratio listed (store .made) (readSide store con d) (λ other. readSide store other g)
   unfolding checked
@@ -408,9 +408,16 @@ module _ (e ratio : Float) (listed : Bool) (store : Store) (con : ℕ) (d g : Tm
       ap (λ (c : Checked). cond (inUnit ratio) (cond listed c (NotPassed Foreign)) (NotPassed Ratio)) (facing-made (isMade (store .made) con) side)
       ∙ ap (λ (answer : SideAnswer). cond (inUnit ratio) (cond listed (checkedSide e (store .made) answer (λ other. readSide store other g)) (NotPassed Foreign)) (NotPassed Ratio)) (side-made store con d)
 
--- what the checks passed say
-pub record Passing (made con other : ℕ) : Type 0 where
+-- the two points read at their indices
+pub checked-stored : (e ratio : Float) (listed : Bool) (store : Store) (con : ℕ) (d : TmeshDirection) (i j : ℕ) → i ≡ indexOf (store .made) con → j ≡ indexOf (store .made) (linkedOf (sideOf (pointAt (store .points) i) d))
+    → checked e ratio listed (store .made) (madeSide (store .made) con (sideOf (pointAt (store .points) i) d)) (λ other. madeSide (store .made) other (sideOf (pointAt (store .points) j) (flipOf d)))
+    ≡ checked e ratio listed (store .made) (readSide store con d) (λ other. readSide store other (flipOf d))
+checked-stored e ratio listed store con d i j i-is j-is = rw (j-is, i-is) (checked-read e ratio listed store con d (flipOf d))
+
+-- what the checks passed say, by con's side
+pub record Passing (made con other : ℕ) (side : Side) : Type 0 where
   pub con-made : isMade made con ≡ true
+  pub other-is : linkedOf side ≡ other
   pub other-made : isMade made other ≡ true
   pub roomy : made < 128
 
@@ -436,21 +443,21 @@ module _ (e ratio : Float) (listed : Bool) (made con : ℕ) (other : ℕ) (inter
   facing-passes n k Opening h = refused-passes _ h
 
   made-passes : (n : ℕ) (k : Float) (facing : Side) (b : Bool) → isMade made n ≡ b → checkedFacing e made n k (cond b (Is facing) (NoSide NoPoint)) ≡ Passed other interval
-      → (isMade made other ≡ true) × (made < 128)
-  made-passes n k facing true t h = (ap (isMade made) (sym (facing-passes n k facing h .0)) ∙ t, facing-passes n k facing h .1)
+      → (n ≡ other) × ((isMade made other ≡ true) × (made < 128))
+  made-passes n k facing true t h = (facing-passes n k facing h .0, (ap (isMade made) (sym (facing-passes n k facing h .0)) ∙ t, facing-passes n k facing h .1))
   made-passes n k facing false t h = refused-passes NoPoint h
 
-  side-passes : (side facing : Side) (b : Bool) → isMade made con ≡ b → checkedSide e made (cond b (Is side) (NoSide NoPoint)) (λ n. madeSide made n facing) ≡ Passed other interval → Passing made con other
-  side-passes (Link n k) facing true t h = let w = made-passes n k facing (isMade made n) refl h in record { con-made = t; other-made = w .0; roomy = w .1 }
+  side-passes : (side facing : Side) (b : Bool) → isMade made con ≡ b → checkedSide e made (cond b (Is side) (NoSide NoPoint)) (λ n. madeSide made n facing) ≡ Passed other interval → Passing made con other side
+  side-passes (Link n k) facing true t h = let w = made-passes n k facing (isMade made n) refl h in record { con-made = t; other-is = w .0; other-made = w .1 .0; roomy = w .1 .1 }
   side-passes (Border weight) facing true t h = refused-passes _ h
   side-passes Opening facing true t h = refused-passes _ h
   side-passes side facing false t h = refused-passes NoPoint h
 
-  pub checked-passes : (side facing : Side) → checked e ratio listed made (madeSide made con side) (λ n. madeSide made n facing) ≡ Passed other interval → Passing made con other
+  pub checked-passes : (side facing : Side) → checked e ratio listed made (madeSide made con side) (λ n. madeSide made n facing) ≡ Passed other interval → Passing made con other side
   unfolding checked
   checked-passes side facing h = by-tests (inUnit ratio) listed h
     where
-      by-tests : (a b : Bool) → cond a (cond b (checkedSide e made (madeSide made con side) (λ n. madeSide made n facing)) (NotPassed Foreign)) (NotPassed Ratio) ≡ Passed other interval → Passing made con other
+      by-tests : (a b : Bool) → cond a (cond b (checkedSide e made (madeSide made con side) (λ n. madeSide made n facing)) (NotPassed Foreign)) (NotPassed Ratio) ≡ Passed other interval → Passing made con other side
       by-tests true true g = side-passes side facing (isMade made con) refl g
       by-tests true false g = refused-passes Foreign g
       by-tests false b g = refused-passes Ratio g

@@ -2,10 +2,12 @@
 use Prim.Native.Nat.{ℕ}
 use mathlib.Core.Bool.{cond}
 use mathlib.Core.List.{List}
-use lib.Ieee.{Float}
+use lib.Dec.{eqb}
+use lib.Ieee.{Float, binary64, mul, sub}
 use lib.ListN.{set}
+use Rattle.float64.specs.Literals.{zeroLiteral, oneLiteral}
 use Rattle.control_point.specs.Direction.{flipOf}
-use Rattle.control_point.specs.Point.{withSide, movedFrom, isMade, pointAt}
+use Rattle.control_point.specs.Point.{withSide, movedFrom, loosePoint, isMade, pointAt}
 use Rattle.control_point.specs.Sides.{Sides, sidesWith}
 use Rattle.control_point.specs.declared.refusal.Refusal.the-variants.{NoPoint}
 use Rattle.control_point.specs.declared.sides.SideAnswer.{SideAnswer}
@@ -18,6 +20,8 @@ use Rattle.insertion.specs.Insert.{newSide, unlessTorn}
 use Rattle.insertion.specs.declared.across.NewSide.{NewSide}
 use Rattle.insertion.specs.declared.across.NewSide.the-variants.{Takes, Joins, Opens, Tears, Stays}
 use Rattle.insertion.specs.declared.across.NewSides.{NewSides}
+use Rattle.insertion.specs.declared.points.Crossing.{Crossing}
+use Rattle.insertion.specs.declared.points.Placing.{Placing}
 
 -- a side that was read, where its point is made
 abbrev pub madeSide : ℕ → ℕ → Side → SideAnswer
@@ -30,6 +34,21 @@ indexOf made n = cond (isMade made n) n 0
 -- a point as the far end of a link from another
 abbrev pub linkEnd : TmeshControlPoint → TmeshControlPoint → ℕ → TmeshDirection → Float → TmeshControlPoint
 linkEnd point from n d interval = movedFrom (withSide point (flipOf d) (Link n interval)) from d interval
+
+-- the points that place p, where it and the other end are linked at the interval's two parts: a link that leads back to con has its far
+-- end in con's point as stored
+abbrev pub placingBy : TmeshControlPoint → TmeshControlPoint → TmeshControlPoint → ℕ → ℕ → ℕ → TmeshDirection → Float → Placing
+placingBy near point opposite con other p d rest =
+    record { near = near; point = point; far = linkEnd (cond (eqb con other) near opposite) point p d rest }
+
+abbrev pub placingIn : TmeshControlPoint → TmeshControlPoint → ℕ → ℕ → ℕ → TmeshDirection → Float → Float → Placing
+placingIn near opposite con other p d share rest =
+    placingBy near (linkEnd (withSide (loosePoint zeroLiteral) d (Link other rest)) near con d share) opposite con other p d rest
+
+unfoldable pub placing : TmeshControlPoint → TmeshControlPoint → ℕ → ℕ → ℕ → TmeshDirection → Float → Float → Placing
+placing before opposite con other p d interval ratio =
+    placingIn (withSide before d (Link p (mul binary64 interval ratio))) opposite con other p d
+    (mul binary64 interval ratio) (mul binary64 interval (sub binary64 oneLiteral ratio))
 
 -- p with a new side
 abbrev pub newSidePoint : TmeshControlPoint → TmeshDirection → NewSide → TmeshControlPoint
@@ -78,3 +97,19 @@ newSidesAfter e sides made con p f first =
 
 unfoldable pub newSides : Float → Sides → ℕ → ℕ → ℕ → TmeshDirection → NewSides
 newSides e sides made con p f = newSidesAfter e sides made con p f (newSide e sides made con p f)
+
+-- ---- as the points that are stored: p's with both sides, and the points joined, which are read before; where both join one point, the
+-- second end is that point as stored
+abbrev pub crossingBy : TmeshControlPoint → TmeshControlPoint → TmeshControlPoint → ℕ → TmeshDirection → NewSides → Crossing
+crossingBy point first secondEnd p g sides = record {
+  first = first;
+  second = joinedPoint (cond (eqb (joinedNumber (sides .first) p) (joinedNumber (sides .second) p)) first secondEnd) point p g (sides .second);
+  point = point;
+}
+
+abbrev pub crossingIn : TmeshControlPoint → TmeshControlPoint → TmeshControlPoint → ℕ → TmeshDirection → NewSides → Crossing
+crossingIn once firstEnd secondEnd p f sides =
+    crossingBy (newSidePoint once (flipOf f) (sides .second)) (joinedPoint firstEnd once p f (sides .first)) secondEnd p (flipOf f) sides
+
+unfoldable pub crossing : TmeshControlPoint → TmeshControlPoint → TmeshControlPoint → ℕ → TmeshDirection → NewSides → Crossing
+crossing point firstEnd secondEnd p f sides = crossingIn (newSidePoint point f (sides .first)) firstEnd secondEnd p f sides

@@ -3,7 +3,7 @@ ghost use mathlib.Core.Path.{_≡_};
 ghost use Prim.Native.Nat.{_<_};
 ghost use Rattle.control_point.specs.Sides.{Full, lentSides};
 ghost use Rattle.insertion.specs.Insert.{newSide, unlessTorn};
-ghost use Rattle.insertion.specs.Points.{linkEnd, newSidePoint, joinedNumber, joinedPoint, sidesWithNew, newSides};
+ghost use Rattle.insertion.specs.Points.{linkEnd, newSidePoint, joinedPoint, sidesWithNew, newSides};
 use control_point::refusal::Refusal;
 use control_point::sides::put_side;
 use control_point::sides::side_at;
@@ -60,20 +60,7 @@ pub fn new_side_point(
     }
 }
 
-// The number of the point that p joins, or p's own.
-pub fn joined_number(side: NewSide, p: u8) -> u8
-    ensures { λ r. ⌜ r ≡ joinedNumber side p ⌝ }
-{
-    match side {
-        NewSide::Takes(_) => p,
-        NewSide::Joins(n, _) => n,
-        NewSide::Opens => p,
-        NewSide::Tears(_) => p,
-        NewSide::Stays => p,
-    }
-}
-
-// The point under that number.
+// The point that p joins, or what stands where it is read.
 pub fn joined_point(
     point: TmeshControlPoint,
     from: TmeshControlPoint,

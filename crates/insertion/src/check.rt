@@ -1,13 +1,18 @@
 // The checks before an insertion, in order.
 ghost use mathlib.Core.Path.{_≡_};
+ghost use Rattle.control_point.specs.Direction.{flipOf};
+ghost use Rattle.control_point.specs.Point.{sideOf};
 ghost use Rattle.control_point.specs.declared.sides.SideAnswer.the-variants.{Is};
 ghost use Rattle.insertion.specs.Insert.{inUnit, checkedIntervals, checkedFacing, checked};
 ghost use Rattle.insertion.specs.Points.{madeSide};
 use control_point::refusal::Refusal;
 use control_point::small::so_small;
 use control_point::t_mesh_control_point::Side;
+use control_point::t_mesh_control_point::TmeshControlPoint;
 use control_point::t_mesh_control_point::is_made;
+use control_point::t_mesh_control_point::side_of;
 use control_point::t_mesh_control_point::side_refusal;
+use control_point::t_mesh_direction::TmeshDirection;
 
 pub enum Checked {
     // The point at the other end of the link, and the interval.
@@ -46,7 +51,7 @@ fn check_facing(closeness: f64, made: u8, other: u8, interval: f64, facing: Side
 }
 
 // All checks, on con's side and the side that faces it, where these points are made.
-pub fn check(
+fn check(
     closeness: f64,
     ratio: f64,
     listed: bool,
@@ -73,4 +78,22 @@ pub fn check(
         return Checked::Refused(Refusal::NoPoint);
     }
     check_facing(closeness, made, other, interval, facing)
+}
+
+// All checks, on the points of con and of the other end.
+pub fn check_link(
+    closeness: f64,
+    ratio: f64,
+    listed: bool,
+    made: u8,
+    con: u8,
+    direction: TmeshDirection,
+    near: TmeshControlPoint,
+    far: TmeshControlPoint,
+) -> Checked
+    ensures { λ r. ⌜ r ≡ checked closeness ratio listed made (madeSide made con (sideOf near direction)) (λ other. madeSide made other (sideOf far (flipOf direction))) ⌝ }
+{
+    let side = side_of(near, direction);
+    let facing = side_of(far, direction.flip());
+    check(closeness, ratio, listed, made, con, side, facing)
 }

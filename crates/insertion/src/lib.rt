@@ -2,3 +2,4 @@
 pub mod across;
 pub mod check;
 pub mod insertion;
+pub mod points;

@@ -17,7 +17,7 @@ use Rattle.insertion.specs.declared.insertion.InsertAnswer.the-variants.{Done, 
 use Rattle.ray.specs.declared.knots.KnotsAnswer.{KnotsAnswer}
 use Rattle.store.specs.declared.store.Store.{Store}
 use Rattle.stored_calls.specs.Points.{hasBits, storeIsRight}
-use Rattle.stored_numbers.specs.BigEndian.{byteAt, numberAt, floatAt}
+use Rattle.big_endian.specs.BigEndian.{byteAt, numberAt, floatAt}
 use Rattle.t_mesh.specs.Tmesh.{listedIn}
 use Rattle.t_mesh.specs.declared.t_mesh.Position.{Position}
 use Rattle.map_replay.specs.declared.answers.Judged.{Judged}

@@ -7,7 +7,7 @@ use native.Mathlib.Numerals.{add-one}
 use lib.Ieee.{Float, nan}
 use lib.ListN.{getD}
 use Rattle.stored_calls.specs.Points.{hasBits}
-use Rattle.stored_numbers.specs.BigEndian.{numberAt}
+use Rattle.big_endian.specs.BigEndian.{numberAt}
 use Rattle.t_mesh.specs.Tmesh.{listedIn}
 use Rattle.map_replay.specs.Answers.{firstAreRight, flagIsAt, listingIsRight}
 

@@ -1,6 +1,8 @@
 // What a call on a map answered, and the map at a list's end, held against stored bytes. specs/Answers.antt says where each number stands.
 ghost use mathlib.Core.Path.{_≡_};
 ghost use Rattle.map_replay.specs.Answers.{countsAreRight, insertionJudged, floatsAreRight, outcomeIsRight, bytesTaken, rayJudged, knotsJudged, valueIsRight, evaluationJudged, flagIsAt, listingIsRight, mapIsRight};
+use big_endian::after;
+use big_endian::byte_at;
 use control_point::refusal::Outcome;
 use control_point::sides::wide;
 use evaluation::evaluation::Evaluation;
@@ -11,8 +13,6 @@ use store::store::Store;
 use stored_calls::points::both;
 use stored_calls::points::float_is_at;
 use stored_calls::points::store_is_right;
-use stored_numbers::after;
-use stored_numbers::byte_at;
 use t_mesh::t_mesh::is_listed;
 
 // Whether a call answered what is stored, and how many bytes it takes.

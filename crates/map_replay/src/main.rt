@@ -10,6 +10,10 @@ use crate::answers::judge_insertion;
 use crate::answers::judge_knots;
 use crate::answers::judge_ray;
 use crate::answers::map_is_right;
+use big_endian::after;
+use big_endian::byte_at;
+use big_endian::float_at;
+use big_endian::pair_at;
 use control_point::sides::wide;
 use control_point::small::closeness;
 use control_point::t_mesh_direction::TmeshDirection;
@@ -24,13 +28,10 @@ use replay::outcome_of;
 use store::store::Store;
 use stored_calls::call::replay_call;
 use stored_calls::points::both;
-use stored_numbers::after;
-use stored_numbers::byte_at;
-use stored_numbers::float_at;
-use stored_numbers::pair_at;
 use t_mesh::add::add_control_point;
 use t_mesh::t_mesh::Position;
 use t_mesh::t_mesh::Tmesh;
+use t_mesh::t_mesh::store_of;
 
 // More lists than the file holds: the loop ends with the file.
 const MOST_LISTS: u64 = 1000000;
@@ -130,10 +131,11 @@ fn replay_reading(kind: u8, call: &[u8], store: Store) -> Judged {
 // A call on the map's points: knots that are kept stay kept.
 fn replay_direct(kind: u8, call: &[u8], mut map: Tmesh) -> MapReplayed {
     let mut mesh = map.mesh;
-    let store = mesh.store;
-    let replayed = replay_call(kind, call, store);
+    let replayed = replay_call(kind, call, store_of(mesh));
     let next = replayed.store;
-    mesh.store = next;
+    let points = next.points;
+    mesh.points = points;
+    mesh.made = next.made;
     map.mesh = mesh;
     MapReplayed {
         map,
@@ -152,8 +154,7 @@ fn replay(kind: u8, call: &[u8], map: Tmesh) -> MapReplayed {
     if kind == EVALUATION {
         return replay_evaluation(call, map);
     }
-    let store = map.mesh.store;
-    let judged = replay_reading(kind, call, store);
+    let judged = replay_reading(kind, call, store_of(map.mesh));
     MapReplayed {
         map,
         right: judged.right,
@@ -197,7 +198,7 @@ fn is_right(list: &[u8]) -> bool {
         map = next;
         left -= 1;
     }
-    let store = map.mesh.store;
+    let store = store_of(map.mesh);
     let listed = map.mesh.listed;
     both(
         right,

@@ -4,7 +4,7 @@ use Prim.Native.Nat.{ℕ}
 use mathlib.Core.List.{List, [], _∷_}
 use lib.Ieee.{Float}
 use Rattle.control_point.specs.Refusal.{refusalNumber, outcomeNumber}
-use Rattle.control_point.specs.Walk.{walkNumber}
+use Rattle.navigation.specs.Walk.{walkNumber}
 use Rattle.control_point.specs.declared.sides.SideAnswer.{SideAnswer}
 use Rattle.control_point.specs.declared.sides.SideAnswer.the-variants.{Is, Refused}
 use Rattle.control_point.specs.declared.t_mesh_direction.TmeshDirection.{TmeshDirection}

@@ -7,11 +7,11 @@ use lib.Ieee.{Float, binary64, add}
 use Rattle.float64.specs.Literals.{oneLiteral}
 use Rattle.control_point.specs.Point.{isLink}
 use Rattle.control_point.specs.Sides.{Sides}
-use Rattle.control_point.specs.Walk.{walkOf, walkNumber}
+use Rattle.navigation.specs.Walk.{walkOf, walkNumber}
 use Rattle.control_point.specs.declared.t_mesh_direction.TmeshDirection.{TmeshDirection}
 use Rattle.control_point.specs.declared.t_mesh_direction.TmeshDirection.the-variants.{Up, Right, Left}
 use Rattle.control_point.specs.declared.t_mesh_control_point.Side.the-variants.{Link}
-use Rattle.control_point.specs.declared.walk.Walk.the-variants.{Reached}
+use Rattle.navigation.specs.declared.walk.Walk.the-variants.{Reached}
 use Rattle.store.specs.Store.{emptyStore}
 use Rattle.store.specs.declared.store.Store.{Store}
 use Rattle.mirror.specs.Calls.{Call, make-loose, connect, remove-edge-condition, navigate-until-con, callStore, callNumber, runCalls, callNumbers}

@@ -8,12 +8,12 @@ use Rattle.control_point.specs.Point.{isLink, isMade}
 use Rattle.control_point.specs.PointLaws.{isMade-made}
 use Rattle.control_point.specs.Refusal.{refusalNumber}
 use Rattle.control_point.specs.Sides.{Sides}
-use Rattle.control_point.specs.Walk.{walkNumber, stepOver, arrive, onward, walkOf}
+use Rattle.navigation.specs.Walk.{walkNumber, stepOver, arrive, onward, walkOf}
 use Rattle.control_point.specs.declared.t_mesh_direction.TmeshDirection.{TmeshDirection}
 use Rattle.control_point.specs.declared.t_mesh_control_point.Side.{Side}
 use Rattle.control_point.specs.declared.t_mesh_control_point.Side.the-variants.{Link, Border, Opening}
-use Rattle.control_point.specs.declared.walk.Walk.{Walk}
-use Rattle.control_point.specs.declared.walk.Walk.the-variants.{Reached, Refused}
+use Rattle.navigation.specs.declared.walk.Walk.{Walk}
+use Rattle.navigation.specs.declared.walk.Walk.the-variants.{Reached, Refused}
 use Rattle.mirror.specs.BoolLaws.{cond-case}
 use Rattle.mirror.specs.Theorems.{Moved, first, next, Walked, Ringed, MovesAreSteps, RingIsNeeded}
 

@@ -15,10 +15,10 @@ use Rattle.control_point.specs.declared.t_mesh_direction.TmeshDirection.{TmeshD
 use Rattle.store.specs.Store.{storeSides}
 use Rattle.store.specs.declared.store.Store.{Store}
 use Rattle.float64.specs.Literals.{zeroLiteral}
-use Rattle.ray.specs.Entry.{onRay, entryOf}
-use Rattle.ray.specs.declared.entry.Entry.{Entry}
-use Rattle.ray.specs.declared.entry.Entry.the-variants.{Is, Refused as NoEntry}
-use Rattle.ray.specs.declared.entry.Front.{Front}
+use Rattle.ray_entry.specs.Entry.{onRay, entryOf}
+use Rattle.ray_entry.specs.declared.entry.Entry.{Entry}
+use Rattle.ray_entry.specs.declared.entry.Entry.the-variants.{Is, Refused as NoEntry}
+use Rattle.ray_entry.specs.declared.entry.Front.{Front}
 
 -- the entries of a ray, or its refusal
 pub data Ray : Type 0 where

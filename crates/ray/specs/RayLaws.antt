@@ -14,9 +14,9 @@ use Rattle.control_point.specs.declared.refusal.Refusal.{Refusal}
 use Rattle.control_point.specs.declared.refusal.Refusal.the-variants.{NoPoint}
 use Rattle.control_point.specs.declared.t_mesh_direction.TmeshDirection.{TmeshDirection}
 use Rattle.float64.specs.Literals.{zeroLiteral}
-use Rattle.ray.specs.Entry.{onRay, entryOf}
+use Rattle.ray_entry.specs.Entry.{onRay, entryOf}
 use Rattle.ray.specs.Ray.{Ray, entries, refused, before, afterEntry, rayFrom, rayOf, castOf}
-use Rattle.ray.specs.declared.entry.Front.{Front}
+use Rattle.ray_entry.specs.declared.entry.Front.{Front}
 
 module _ (e : Float) (sides : Sides) (made : ℕ) (d : TmeshDirection) where
   pub ray-end : (n : ℕ) (front : Front) → n ≡ 0 → rayFrom e sides made d n front ≡ entries []

@@ -4,14 +4,14 @@ ghost use lib.ListN.{length, replicate};
 ghost use Rattle.control_point.specs.Sides.{lentSides};
 ghost use Rattle.float64.specs.Literals.{zeroLiteral};
 ghost use Rattle.ray.specs.Ray.{castOver, castRay};
-use crate::entry::Entry;
-use crate::entry::next_entry;
-use crate::entry::on_ray;
 use control_point::refusal::Outcome;
 use control_point::refusal::Refusal;
 use control_point::sides::fill;
 use control_point::t_mesh_control_point::is_made;
 use control_point::t_mesh_direction::TmeshDirection;
+use ray_entry::entry::Entry;
+use ray_entry::entry::next_entry;
+use ray_entry::entry::on_ray;
 use store::store::Store;
 
 // All 0.0.

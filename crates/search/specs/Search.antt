@@ -12,15 +12,15 @@ use Rattle.control_point.specs.Point.{isMade, isLink, sideRefusal}
 use Rattle.control_point.specs.Refusal.{refusalNumber}
 use Rattle.control_point.specs.Sides.{Sides}
 use Rattle.control_point.specs.Small.{small}
-use Rattle.control_point.specs.Walk.{walkOf}
+use Rattle.navigation.specs.Walk.{walkOf}
 use Rattle.control_point.specs.declared.refusal.Outcome.{Outcome}
 use Rattle.control_point.specs.declared.refusal.Outcome.the-variants.{Done, Refused}
 use Rattle.control_point.specs.declared.refusal.Refusal.the-variants.{Ring, NoPoint}
 use Rattle.control_point.specs.declared.t_mesh_direction.TmeshDirection.{TmeshDirection}
 use Rattle.control_point.specs.declared.t_mesh_control_point.Side.{Side}
 use Rattle.control_point.specs.declared.t_mesh_control_point.Side.the-variants.{Link, Border, Opening}
-use Rattle.control_point.specs.declared.walk.Walk.{Walk}
-use Rattle.control_point.specs.declared.walk.Walk.the-variants.{Reached, Refused as NoWalk}
+use Rattle.navigation.specs.declared.walk.Walk.{Walk}
+use Rattle.navigation.specs.declared.walk.Walk.the-variants.{Reached, Refused as NoWalk}
 use Rattle.search.specs.declared.search.Found.{Found}
 use Rattle.search.specs.declared.search.Found.the-variants.{At, Nothing, Failed}
 use Rattle.search.specs.declared.search.Judged.{Judged}

@@ -14,8 +14,8 @@ use control_point::t_mesh_control_point::is_made;
 use control_point::t_mesh_control_point::is_opening;
 use control_point::t_mesh_control_point::side_refusal;
 use control_point::t_mesh_direction::TmeshDirection;
-use control_point::walk::Walk;
-use control_point::walk::navigate;
+use navigation::walk::Walk;
+use navigation::walk::navigate;
 
 pub enum Found {
     // The point to connect to, and the interval.

@@ -1,18 +1,26 @@
 -- Every list leaves a sound mesh, because a fresh one is sound and each call keeps it so; the theorems are what a sound mesh says of a call.
-use mathlib.Core.Path.{subst}
-use mathlib.Core.Bool.{true≢false}
+use Prim.Native.Nat.{ℕ}
+use mathlib.Core.Path.{_≡_, sym, subst}
+use mathlib.Core.Bool.{true, false, _||_, true≢false}
+use mathlib.Core.Logic.{inl, inr}
 use mathlib.Core.List.{List, [], _∷_}
+use lib.Dec.{T, eqb, eqb→eq}
 use lib.Ieee.{Float}
+use Rattle.control_point.specs.Refusal.{refusalNumber}
+use Rattle.control_point.specs.declared.refusal.Refusal.{Refusal}
+use Rattle.evaluation.specs.Evaluation.{subsOf}
+use Rattle.evaluation.specs.declared.evaluation.EvaluationAnswer.the-variants.{Refused as NoValue}
+use Rattle.mirror.specs.BoolLaws.{or-case}
 use Rattle.store.specs.Store.{storeSides}
-use Rattle.t_mesh.specs.Tmesh.{newTmesh}
+use Rattle.t_mesh.specs.Tmesh.{storeOf, newTmesh}
 use Rattle.t_mesh.specs.declared.t_mesh.Tmesh.{Tmesh}
 use Rattle.calls.specs.Calls.{Call, mapAfter}
 use Rattle.soundness.specs.FreshLaws.{sound-fresh}
 use Rattle.soundness.specs.InsertionLaws.{KnownAnswer}
-use Rattle.soundness.specs.KnownLaws.{KnownOutcome, KnownWalk, known-walk}
+use Rattle.soundness.specs.KnownLaws.{MetOutcome, KnownWalk, known-walk}
 use Rattle.soundness.specs.KnownRayLaws.{KnownRay, known-ray, known-knots}
 use Rattle.soundness.specs.MapLaws.{SoundMesh, KnownEvaluation, insertion-known, insertion-places, generation-known, evaluation-known, sound-call, listing-call}
-use Rattle.soundness.specs.Theorems.{mapAfterAll, EveryMap, EveryMapMirrored, ListedIsMade, ListingGrows, PlacingConnects, MeetsPoints, NoPointNever}
+use Rattle.soundness.specs.Theorems.{mapAfterAll, EveryMap, OneOf, EveryMapMirrored, ListedIsMade, ListingGrows, PlacingConnects, MeetsPoints, NoPointNever, EvaluationRefusals}
 
 sound-list : (e : Float) (calls : List Call) (map : Tmesh) → SoundMesh (map .mesh) → SoundMesh (mapAfterAll e map calls .mesh)
 unfolding mapAfterAll
@@ -37,22 +45,38 @@ listing-grows = of-sound _ (λ map sound. listing-call map sound)
 pub placing-connects : PlacingConnects
 placing-connects = of-sound _ (λ map sound. insertion-places map sound)
 
+false≢true : {A : Type 0} → false ≡ true → A
+false≢true h = absurd (true≢false (sym h))
+
+-- one of the three
+of-three : (n : ℕ) → (eqb n 3 || (eqb n 4 || eqb n 9)) ≡ true → OneOf n (3 ∷ (4 ∷ (9 ∷ [])))
+of-three n h =
+    or-case (eqb n 3) (eqb n 4 || eqb n 9) h (λ a. inl (same 3 a)) (λ k. or-case (eqb n 4) (eqb n 9) k (λ a. inr (inl (same 4 a))) (λ a. inr (inr (inl (same 9 a)))))
+  where
+    same : (m : ℕ) → eqb n m ≡ true → n ≡ m
+    same m a = eqb→eq n m (subst T (sym a) tt)
+
+refused-so : (map : Tmesh) → SoundMesh (map .mesh) → (e s t : Float) (refusal : Refusal) → subsOf e map s t .answer ≡ NoValue refusal
+    → OneOf (refusalNumber refusal) (3 ∷ (4 ∷ (9 ∷ [])))
+refused-so map sound e s t refusal is = of-three (refusalNumber refusal) (subst KnownEvaluation is (evaluation-known map sound e s t))
+
+pub evaluation-refusals : EvaluationRefusals
+evaluation-refusals = of-sound _ refused-so
+
 meets-points : (map : Tmesh) → SoundMesh (map .mesh) → MeetsPoints map
 meets-points map sound =
     record {
       adds = λ e con d ratio position is. true≢false (subst KnownAnswer is (insertion-known map sound e con d ratio position));
       tears = λ e con d ratio position opened inferred is. true≢false (subst KnownAnswer is (insertion-known map sound e con d ratio position));
       walks = λ n n-made travel watch is.
-          true≢false
-          (subst (KnownWalk (map .mesh .store .made)) is
-          (known-walk (storeSides (map .mesh .store)) (map .mesh .store .made) (sound .sound .fits) (sound .sound .mirrored) n travel watch n-made));
+          false≢true (subst (KnownWalk (storeOf map .made)) is
+          (known-walk (storeSides (storeOf map)) (storeOf map .made) (sound .sound .fits) (sound .sound .mirrored) n travel watch n-made));
       casts = λ n n-made e d length is.
-          true≢false
-          (subst KnownRay is
-          (known-ray e (storeSides (map .mesh .store)) (map .mesh .store .made) (sound .sound .fits) (sound .sound .mirrored) d n n-made length));
-      builds = λ n n-made e is. true≢false (subst KnownOutcome is (known-knots e (map .mesh .store) (sound .sound) n n-made));
-      generates = λ e is. true≢false (subst KnownOutcome is (generation-known map sound e));
-      evaluates = λ e s t is. true≢false (subst KnownEvaluation is (evaluation-known map sound e s t));
+          false≢true (subst KnownRay is
+          (known-ray e (storeSides (storeOf map)) (storeOf map .made) (sound .sound .fits) (sound .sound .mirrored) d n n-made length));
+      builds = λ n n-made e is. false≢true (subst MetOutcome is (known-knots e (storeOf map) (sound .sound) n n-made));
+      generates = λ e is. false≢true (subst MetOutcome is (generation-known map sound e));
+      evaluates = λ e s t is. false≢true (subst KnownEvaluation is (evaluation-known map sound e s t));
     }
 
 pub no-point-never : NoPointNever

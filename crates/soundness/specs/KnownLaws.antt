@@ -1,8 +1,8 @@
 -- Laws of walks and searches in mirrored sides: from a made point they meet made points only, so none is refused 11.
 use Prim.Native.Nat.{ℕ, zero, suc, _<_, _≤_, _+_, _-_}
-use mathlib.Core.Path.{_≡_, refl}
-use mathlib.Core.Bool.{false, _&&_, _||_}
-use lib.Dec.{eqb}
+use mathlib.Core.Path.{_≡_, refl, sym, ap, _∙_, subst}
+use mathlib.Core.Bool.{true, false, _&&_, _||_}
+use lib.Dec.{T, eqb, eqb→eq}
 use lib.Ieee.{Float, binary64, add, sub, lt}
 use Rattle.control_point.specs.Connect.{connectable}
 use Rattle.control_point.specs.Direction.{clockwiseOf, antiClockwiseOf, flipOf}
@@ -11,16 +11,16 @@ use Rattle.control_point.specs.PointLaws.{made-isMade}
 use Rattle.control_point.specs.Refusal.{refusalNumber}
 use Rattle.control_point.specs.Sides.{Sides}
 use Rattle.control_point.specs.Small.{small}
-use Rattle.control_point.specs.Walk.{stepOver, arrive, onward, walkOf}
+use Rattle.navigation.specs.Walk.{stepOver, arrive, onward, walkOf}
 use Rattle.control_point.specs.declared.refusal.Outcome.{Outcome}
 use Rattle.control_point.specs.declared.refusal.Outcome.the-variants.{Done, Refused}
 use Rattle.control_point.specs.declared.refusal.Refusal.{Refusal}
 use Rattle.control_point.specs.declared.t_mesh_direction.TmeshDirection.{TmeshDirection}
 use Rattle.control_point.specs.declared.t_mesh_control_point.Side.{Side}
 use Rattle.control_point.specs.declared.t_mesh_control_point.Side.the-variants.{Link, Border, Opening}
-use Rattle.control_point.specs.declared.walk.Walk.{Walk}
-use Rattle.control_point.specs.declared.walk.Walk.the-variants.{Reached, Refused as NoWalk}
-use Rattle.mirror.specs.BoolLaws.{cond-case}
+use Rattle.navigation.specs.declared.walk.Walk.{Walk}
+use Rattle.navigation.specs.declared.walk.Walk.the-variants.{Reached, Refused as NoWalk}
+use Rattle.mirror.specs.BoolLaws.{cond-case, or-case}
 use Rattle.mirror.specs.Mirror.{Mirrored}
 use Rattle.search.specs.Search.{afterConnecting, judgeAt, concluded, moveOver, seekFrom, walked, findInferredConnection}
 use Rattle.search.specs.declared.search.Found.{Found}
@@ -32,15 +32,33 @@ use Rattle.search.specs.declared.search.Judged.the-variants.{On, Here, Ends, Fa
 abbrev pub Known : Refusal → Type 0
 Known refusal = eqb (refusalNumber refusal) 11 ≡ false
 
+-- a refusal that a walk between made points can meet: an opening 3, a border 4, a ring 9
+abbrev pub Met : Refusal → Type 0
+Met refusal = (eqb (refusalNumber refusal) 3 || (eqb (refusalNumber refusal) 4 || eqb (refusalNumber refusal) 9)) ≡ true
+
+met-other : (n m : ℕ) → eqb m 11 ≡ false → eqb n m ≡ true → eqb n 11 ≡ false
+met-other n m other same = ap (λ (k : ℕ). eqb k 11) (eqb→eq n m (subst T (sym same) tt)) ∙ other
+
+-- it is not 11
+met-known : (refusal : Refusal) → Met refusal → Known refusal
+met-known refusal met =
+    let n = refusalNumber refusal in
+    or-case (eqb n 3) (eqb n 4 || eqb n 9) met (met-other n 3 refl) (λ h. or-case (eqb n 4) (eqb n 9) h (met-other n 4 refl) (met-other n 9 refl))
+
+-- a building of knots that is done, or meets what a walk can meet
+abbrev pub MetOutcome : Outcome → Type 0
+MetOutcome Done = Unit {0}
+MetOutcome (Refused refusal) = Met refusal
+
 -- a call that is done, or refused otherwise
 abbrev pub KnownOutcome : Outcome → Type 0
 KnownOutcome Done = Unit {0}
 KnownOutcome (Refused refusal) = Known refusal
 
--- a walk that ends at a made point, or is refused otherwise
+-- a walk that ends at a made point, or is refused 3, 4 or 9
 abbrev pub KnownWalk : ℕ → Walk → Type 0
 KnownWalk made (Reached n sum moves) = n < made
-KnownWalk made (NoWalk refusal) = Known refusal
+KnownWalk made (NoWalk refusal) = Met refusal
 
 -- a search that fails otherwise, if it fails
 abbrev pub KnownFound : Found → Type 0
@@ -131,7 +149,7 @@ module _ (sides : Sides) (made : ℕ) (fits : made ≤ 128) (mirrored : Mirrored
     walks : (walk : Walk) (next : ℕ → Float → Found) → KnownWalk made walk → ((n : ℕ) (sum : Float) → n < made → KnownFound (next n sum))
         → KnownFound (walked walk next)
     walks (Reached n sum count) next known go = go n sum known
-    walks (NoWalk refusal) next known go = known
+    walks (NoWalk refusal) next known go = met-known refusal known
 
     pub known-search : KnownFound (findInferredConnection e sides made p f)
     unfolding findInferredConnection

@@ -1,4 +1,4 @@
--- Laws of rays and knots in mirrored sides: from a made point each front stands at a made point, so none is refused 11.
+-- Laws of rays and knots in mirrored sides: from a made point each front stands at a made point, so each is refused 3, 4 or 9 if it is refused.
 use Prim.Native.Nat.{ℕ, zero, suc, _<_, _≤_}
 use mathlib.Core.Path.{_≡_, refl}
 use mathlib.Core.Bool.{Bool, false}
@@ -9,44 +9,44 @@ use Rattle.control_point.specs.Point.{isBorder, isOpening}
 use Rattle.control_point.specs.PointLaws.{made-isMade}
 use Rattle.control_point.specs.Sides.{Sides}
 use Rattle.control_point.specs.Small.{small}
-use Rattle.control_point.specs.Walk.{walkOf}
+use Rattle.navigation.specs.Walk.{walkOf}
 use Rattle.control_point.specs.declared.sides.SideAnswer.the-variants.{Is as IsSide}
 use Rattle.control_point.specs.declared.t_mesh_direction.TmeshDirection.{TmeshDirection}
 use Rattle.control_point.specs.declared.t_mesh_direction.TmeshDirection.the-variants.{Up, Right, Down, Left}
 use Rattle.control_point.specs.declared.t_mesh_control_point.Side.{Side}
 use Rattle.control_point.specs.declared.t_mesh_control_point.Side.the-variants.{Link, Border, Opening}
-use Rattle.control_point.specs.declared.walk.Walk.{Walk}
-use Rattle.control_point.specs.declared.walk.Walk.the-variants.{Reached, Refused as NoWalk}
+use Rattle.navigation.specs.declared.walk.Walk.{Walk}
+use Rattle.navigation.specs.declared.walk.Walk.the-variants.{Reached, Refused as NoWalk}
 use Rattle.store.specs.Store.{storeSides}
 use Rattle.store.specs.declared.store.Store.{Store}
 use Rattle.mirror.specs.BoolLaws.{cond-case}
 use Rattle.mirror.specs.Mirror.{Mirrored, Sound}
 use Rattle.float64.specs.Literals.{zeroLiteral}
-use Rattle.ray.specs.Approach.{approachRound, approachIn, approachOf}
-use Rattle.ray.specs.Entry.{onRay, afterWalk, cornerWalk, faceWalk, sideEntry, pointEntry, aroundFace, afterApproach, marchEntry, entryOf}
+use Rattle.ray_entry.specs.Approach.{approachRound, approachIn, approachOf}
+use Rattle.ray_entry.specs.Entry.{onRay, afterWalk, cornerWalk, faceWalk, sideEntry, pointEntry, aroundFace, afterApproach, marchEntry, entryOf}
 use Rattle.ray.specs.Knots.{afterRay, knotsAt, pointKnotVectors}
 use Rattle.ray.specs.Ray.{Ray, entries, refused, before, afterEntry, rayFrom, rayOf}
-use Rattle.ray.specs.declared.approach.Approach.{Approach}
-use Rattle.ray.specs.declared.approach.Approach.the-variants.{Aligned, Crossed, Refused as NoApproach}
-use Rattle.ray.specs.declared.entry.Entry.{Entry}
-use Rattle.ray.specs.declared.entry.Entry.the-variants.{Is, Refused}
-use Rattle.ray.specs.declared.entry.Front.{Front}
+use Rattle.ray_entry.specs.declared.approach.Approach.{Approach}
+use Rattle.ray_entry.specs.declared.approach.Approach.the-variants.{Aligned, Crossed, Refused as NoApproach}
+use Rattle.ray_entry.specs.declared.entry.Entry.{Entry}
+use Rattle.ray_entry.specs.declared.entry.Entry.the-variants.{Is, Refused}
+use Rattle.ray_entry.specs.declared.entry.Front.{Front}
 use Rattle.ray.specs.declared.knots.KnotsAnswer.{KnotsAnswer}
-use Rattle.soundness.specs.KnownLaws.{Known, KnownOutcome, KnownWalk, known-walk}
+use Rattle.soundness.specs.KnownLaws.{Met, MetOutcome, KnownWalk, known-walk}
 
--- an approach that stays at made points, an entry whose front does, and a ray, each refused otherwise than by 11 if it is refused
+-- an approach that stays at made points, an entry whose front does, and a ray, each refused 3, 4 or 9 if it is refused
 abbrev KnownApproach : ℕ → Approach → Type 0
 KnownApproach made (Aligned n) = n < made
 KnownApproach made (Crossed n r) = n < made
-KnownApproach made (NoApproach refusal) = Known refusal
+KnownApproach made (NoApproach refusal) = Met refusal
 
 abbrev KnownEntry : ℕ → Entry → Type 0
 KnownEntry made (Is value front) = front .at < made
-KnownEntry made (Refused refusal) = Known refusal
+KnownEntry made (Refused refusal) = Met refusal
 
 abbrev pub KnownRay : Ray → Type 0
 KnownRay (entries values) = Unit {0}
-KnownRay (refused refusal) = Known refusal
+KnownRay (refused refusal) = Met refusal
 
 known-before : (value : Float) (ray : Ray) → KnownRay ray → KnownRay (before value ray)
 known-before value (entries values) known = tt
@@ -131,19 +131,19 @@ module _ (e : Float) (sides : Sides) (made : ℕ) (fits : made ≤ 128) (mirrore
   known-ray start h n = rw (made-isMade made start fits h) (known-from n (onRay start false) h)
 
 -- ---- the knots of a point
-after-ray : (ray : Ray) (next : List Float → KnotsAnswer) → KnownRay ray → ((values : List Float) → KnownOutcome (next values .outcome))
-    → KnownOutcome (afterRay ray next .outcome)
+after-ray : (ray : Ray) (next : List Float → KnotsAnswer) → KnownRay ray → ((values : List Float) → MetOutcome (next values .outcome))
+    → MetOutcome (afterRay ray next .outcome)
 after-ray (entries values) next known known-next = known-next values
 after-ray (refused refusal) next known known-next = known
 
 module _ (e : Float) (store : Store) (sound : Sound store) (n : ℕ) (n-made : n < store .made) where
-  over-ray : (d : TmeshDirection) (next : List Float → KnotsAnswer) → ((values : List Float) → KnownOutcome (next values .outcome))
-      → KnownOutcome (afterRay (rayOf e (storeSides store) (store .made) n d 2) next .outcome)
+  over-ray : (d : TmeshDirection) (next : List Float → KnotsAnswer) → ((values : List Float) → MetOutcome (next values .outcome))
+      → MetOutcome (afterRay (rayOf e (storeSides store) (store .made) n d 2) next .outcome)
   over-ray d next =
       after-ray (rayOf e (storeSides store) (store .made) n d 2) next
       (known-ray e (storeSides store) (store .made) (sound .fits) (sound .mirrored) d n n-made 2)
 
-  pub known-knots : KnownOutcome (pointKnotVectors e store n .outcome)
+  pub known-knots : MetOutcome (pointKnotVectors e store n .outcome)
   unfolding pointKnotVectors knotsAt
   known-knots =
       rw (made-isMade (store .made) n (sound .fits) n-made)

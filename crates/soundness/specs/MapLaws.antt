@@ -22,88 +22,88 @@ use Rattle.insertion.specs.declared.insertion.Inserted.{Inserted}
 use Rattle.ray.specs.Knots.{pointKnotVectors}
 use Rattle.ray.specs.declared.knots.PointKnots.{PointKnots}
 use Rattle.t_mesh.specs.Insertion.{isDone, isRefused, withPlaced, afterInsertion, addControlPoint}
-use Rattle.t_mesh.specs.Tmesh.{isListed}
+use Rattle.t_mesh.specs.Tmesh.{meshStore, storeOf, isListed}
 use Rattle.t_mesh.specs.declared.t_mesh.Mesh.{Mesh}
 use Rattle.t_mesh.specs.declared.t_mesh.Position.{Position}
 use Rattle.t_mesh.specs.declared.t_mesh.Tmesh.{Tmesh}
 use Rattle.evaluation.specs.Evaluation.{valueOf, answerBy, withKnots, subsOf}
-use Rattle.evaluation.specs.Knots.{AllKnots, all, none, onAll, inRow, withRow, rowsFrom, allKnots, keeping, generateKnotVectors}
+use Rattle.knot_vectors.specs.Knots.{AllKnots, all, none, onAll, inRow, withRow, rowsFrom, allKnots, keeping, generateKnotVectors}
 use Rattle.evaluation.specs.declared.evaluation.Evaluation.{Evaluation}
 use Rattle.evaluation.specs.declared.evaluation.EvaluationAnswer.{EvaluationAnswer}
 use Rattle.evaluation.specs.declared.evaluation.EvaluationAnswer.the-variants.{Is, Refused as NoValue}
-use Rattle.evaluation.specs.declared.knots.Generated.{Generated}
+use Rattle.knot_vectors.specs.declared.knots.Generated.{Generated}
 use Rattle.calls.specs.Calls.{Call, insertion, evaluation, answerTo, mapAfter}
 use Rattle.soundness.specs.InsertionLaws.{KnownAnswer, Grown, Inserts, inserts}
-use Rattle.soundness.specs.KnownLaws.{Known, KnownOutcome}
+use Rattle.soundness.specs.KnownLaws.{Met, MetOutcome}
 use Rattle.soundness.specs.KnownRayLaws.{known-knots}
 use Rattle.soundness.specs.Theorems.{Placing, listsPoint}
 
 -- a sound store whose listed numbers are made
 pub record SoundMesh (mesh : Mesh) : Type 0 where
-  pub sound : Sound (mesh .store)
+  pub sound : Sound (meshStore mesh)
   pub room : length (mesh .listed) ≡ 128
-  pub listed-made : (n : ℕ) → getD (mesh .listed) n false ≡ true → n < mesh .store .made
+  pub listed-made : (n : ℕ) → getD (mesh .listed) n false ≡ true → n < meshStore mesh .made
 
--- an evaluation that is not refused 11
+-- an evaluation that is refused 3, 4 or 9, if it is refused
 abbrev pub KnownEvaluation : EvaluationAnswer → Type 0
 KnownEvaluation (Is value) = Unit {0}
-KnownEvaluation (NoValue refusal) = Known refusal
+KnownEvaluation (NoValue refusal) = Met refusal
 
--- all knots built, or refused otherwise
+-- all knots built, or refused so
 abbrev KnownAll : AllKnots → Type 0
 KnownAll (all rows) = Unit {0}
-KnownAll (none refusal) = Known refusal
+KnownAll (none refusal) = Met refusal
 
 module _ (map : Tmesh) (mesh-sound : SoundMesh (map .mesh)) where
   -- ---- an insertion
   -- the next number to be made is not listed
-  unlisted : isListed map (map .mesh .store .made) ≡ false
-  unlisted = by-test (isListed map (map .mesh .store .made)) refl
+  unlisted : isListed map (storeOf map .made) ≡ false
+  unlisted = by-test (isListed map (storeOf map .made)) refl
     where
-      by-test : (b : Bool) → isListed map (map .mesh .store .made) ≡ b → b ≡ false
-      by-test true h = let l = mesh-sound .listed-made (map .mesh .store .made) h in absurd (omega arith)
+      by-test : (b : Bool) → isListed map (storeOf map .made) ≡ b → b ≡ false
+      by-test true h = let l = mesh-sound .listed-made (storeOf map .made) h in absurd (omega arith)
       by-test false h = refl
 
   -- the listing where that number is listed or not
-  listing-placed : (lists : Bool) → map .mesh .store .made < 128 → (n : ℕ)
-      → getD (set (map .mesh .listed) (map .mesh .store .made) lists) n false ≡ ((lists && eqb n (map .mesh .store .made)) || isListed map n)
-  listing-placed lists roomy n = by-test lists (eqb n (map .mesh .store .made)) refl
+  listing-placed : (lists : Bool) → storeOf map .made < 128 → (n : ℕ)
+      → getD (set (map .mesh .listed) (storeOf map .made) lists) n false ≡ ((lists && eqb n (storeOf map .made)) || isListed map n)
+  listing-placed lists roomy n = by-test lists (eqb n (storeOf map .made)) refl
     where
-      same : (lists : Bool) → getD (set (map .mesh .listed) (map .mesh .store .made) lists) (map .mesh .store .made) false ≡ lists
-      same lists = getD-set-same (map .mesh .listed) (map .mesh .store .made) lists false (rw (mesh-sound .room) roomy)
+      same : (lists : Bool) → getD (set (map .mesh .listed) (storeOf map .made) lists) (storeOf map .made) false ≡ lists
+      same lists = getD-set-same (map .mesh .listed) (storeOf map .made) lists false (rw (mesh-sound .room) roomy)
 
-      other : (lists : Bool) → eqb n (map .mesh .store .made) ≡ false
-          → getD (set (map .mesh .listed) (map .mesh .store .made) lists) n false ≡ isListed map n
-      other lists h = getD-set-other (map .mesh .listed) (map .mesh .store .made) n lists false (eqb-false n (map .mesh .store .made) h)
+      other : (lists : Bool) → eqb n (storeOf map .made) ≡ false
+          → getD (set (map .mesh .listed) (storeOf map .made) lists) n false ≡ isListed map n
+      other lists h = getD-set-other (map .mesh .listed) (storeOf map .made) n lists false (eqb-false n (storeOf map .made) h)
 
-      by-test : (lists b : Bool) → eqb n (map .mesh .store .made) ≡ b
-          → getD (set (map .mesh .listed) (map .mesh .store .made) lists) n false ≡ ((lists && b) || isListed map n)
-      by-test true true h = rw (eqb-true n (map .mesh .store .made) h) (same true)
+      by-test : (lists b : Bool) → eqb n (storeOf map .made) ≡ b
+          → getD (set (map .mesh .listed) (storeOf map .made) lists) n false ≡ ((lists && b) || isListed map n)
+      by-test true true h = rw (eqb-true n (storeOf map .made) h) (same true)
       by-test true false h = other true h
-      by-test false true h = rw (eqb-true n (map .mesh .store .made) h) (same false ∙ sym unlisted)
+      by-test false true h = rw (eqb-true n (storeOf map .made) h) (same false ∙ sym unlisted)
       by-test false false h = other false h
 
-  sound-placed : (lists : Bool) (position : Position) (store : Store) → Grown (map .mesh .store) store
-      → SoundMesh (withPlaced (map .mesh) store (map .mesh .store .made) position lists)
+  sound-placed : (lists : Bool) (position : Position) (store : Store) → Grown (storeOf map) store
+      → SoundMesh (withPlaced (map .mesh) store (storeOf map .made) position lists)
   sound-placed lists position store grown =
       record {
         sound = grown .sound;
-        room = length-set (map .mesh .listed) (map .mesh .store .made) lists ∙ mesh-sound .room;
+        room = length-set (map .mesh .listed) (storeOf map .made) lists ∙ mesh-sound .room;
         listed-made = λ n h.
             let grows = grown .made-is in
-            or-case (lists && eqb n (map .mesh .store .made)) (isListed map n) (sym (listing-placed lists (grown .roomy) n) ∙ h)
-            (λ new. let i = eqb-true n (map .mesh .store .made) (and-both lists (eqb n (map .mesh .store .made)) new .1) in omega arith)
+            or-case (lists && eqb n (storeOf map .made)) (isListed map n) (sym (listing-placed lists (grown .roomy) n) ∙ h)
+            (λ new. let i = eqb-true n (storeOf map .made) (and-both lists (eqb n (storeOf map .made)) new .1) in omega arith)
             (λ old. let l = mesh-sound .listed-made n old in omega arith);
       }
 
   -- by the answer, and what it says of the store that was left
-  listing-after : (position : Position) (answer : InsertAnswer) (store : Store) → (isRefused answer ≡ false → Grown (map .mesh .store) store) → (n : ℕ)
-      → isListed (afterInsertion map position answer store) n ≡ ((isDone answer && eqb n (map .mesh .store .made)) || isListed map n)
+  listing-after : (position : Position) (answer : InsertAnswer) (store : Store) → (isRefused answer ≡ false → Grown (storeOf map) store) → (n : ℕ)
+      → isListed (afterInsertion map position answer store) n ≡ ((isDone answer && eqb n (storeOf map .made)) || isListed map n)
   listing-after position (Added opened inferred) store grown n = listing-placed true (grown refl .roomy) n
   listing-after position (Torn opened inferred met) store grown n = listing-placed false (grown refl .roomy) n
   listing-after position (NotAdded refusal) store grown n = refl
 
-  sound-after : (position : Position) (answer : InsertAnswer) (store : Store) → (isRefused answer ≡ false → Grown (map .mesh .store) store)
+  sound-after : (position : Position) (answer : InsertAnswer) (store : Store) → (isRefused answer ≡ false → Grown (storeOf map) store)
       → SoundMesh (afterInsertion map position answer store .mesh)
   sound-after position (Added opened inferred) store grown = sound-placed true position store (grown refl)
   sound-after position (Torn opened inferred met) store grown = sound-placed false position store (grown refl)
@@ -111,11 +111,11 @@ module _ (map : Tmesh) (mesh-sound : SoundMesh (map .mesh)) where
 
   module _ (e : Float) (con : ℕ) (d : TmeshDirection) (ratio : Float) where
     result : Inserted
-    result = insertPoint e (map .mesh .store) (isListed map con) con d ratio
+    result = insertPoint e (storeOf map) (isListed map con) con d ratio
 
-    result-inserts : Inserts e (map .mesh .store) con d ratio result
+    result-inserts : Inserts e (storeOf map) con d ratio result
     unfolding result
-    result-inserts = inserts e (map .mesh .store) (mesh-sound .sound) con d ratio (isListed map con) (mesh-sound .listed-made con)
+    result-inserts = inserts e (storeOf map) (mesh-sound .sound) con d ratio (isListed map con) (mesh-sound .listed-made con)
 
     module _ (position : Position) where
       pub insertion-known : KnownAnswer (addControlPoint e map con d ratio position .answer)
@@ -123,7 +123,7 @@ module _ (map : Tmesh) (mesh-sound : SoundMesh (map .mesh)) where
       insertion-known = result-inserts .known
 
       pub insertion-places : isRefused (addControlPoint e map con d ratio position .answer) ≡ false
-          → Placing e (map .mesh .store) con d ratio (insertPoint e (map .mesh .store) (isListed map con) con d ratio)
+          → Placing e (storeOf map) con d ratio (insertPoint e (storeOf map) (isListed map con) con d ratio)
       unfolding addControlPoint result
       insertion-places = result-inserts .placing
 
@@ -133,13 +133,13 @@ module _ (map : Tmesh) (mesh-sound : SoundMesh (map .mesh)) where
 
       insertion-lists : (n : ℕ)
           → isListed (addControlPoint e map con d ratio position .map) n
-          ≡ ((isDone (addControlPoint e map con d ratio position .answer) && eqb n (map .mesh .store .made)) || isListed map n)
+          ≡ ((isDone (addControlPoint e map con d ratio position .answer) && eqb n (storeOf map .made)) || isListed map n)
       unfolding addControlPoint result
       insertion-lists = listing-after position (result .answer) (result .store) (result-inserts .grown)
 
   -- ---- an evaluation
   module _ (e : Float) where
-    known-row : (outcome : Outcome) (knots : PointKnots) (n : ℕ) (rows : List PointKnots) → KnownOutcome outcome → KnownAll (inRow outcome knots n rows)
+    known-row : (outcome : Outcome) (knots : PointKnots) (n : ℕ) (rows : List PointKnots) → MetOutcome outcome → KnownAll (inRow outcome knots n rows)
     known-row Done knots n rows known = tt
     known-row (Refused refusal) knots n rows known = known
 
@@ -147,8 +147,8 @@ module _ (map : Tmesh) (mesh-sound : SoundMesh (map .mesh)) where
     known-listed n rows =
         cond-case (isListed map n) KnownAll _ _
         (λ l.
-        known-row (pointKnotVectors e (map .mesh .store) n .outcome) _ n rows
-        (known-knots e (map .mesh .store) (mesh-sound .sound) n (mesh-sound .listed-made n l)))
+        known-row (pointKnotVectors e (storeOf map) n .outcome) _ n rows
+        (known-knots e (storeOf map) (mesh-sound .sound) n (mesh-sound .listed-made n l)))
         (λ l. tt)
 
     on-all : (knots : AllKnots) (next : List PointKnots → AllKnots) → KnownAll knots → ((rows : List PointKnots) → KnownAll (next rows))
@@ -161,9 +161,9 @@ module _ (map : Tmesh) (mesh-sound : SoundMesh (map .mesh)) where
     known-rows zero n rows = tt
     known-rows (suc left) n rows = on-all (withRow e map n rows) _ (known-listed n rows) (λ filled. known-rows left (n + 1) filled)
 
-    -- knots built or kept: not refused 11, and the mesh is as it was
+    -- knots built or kept: refused 3, 4 or 9 if refused, and the mesh is as it was
     abbrev Keeps : Generated → Type 0
-    Keeps generated = KnownOutcome (generated .outcome) × (generated .map .mesh ≡ map .mesh)
+    Keeps generated = MetOutcome (generated .outcome) × (generated .map .mesh ≡ map .mesh)
 
     keeps-all : (knots : AllKnots) → KnownAll knots → Keeps (keeping map knots)
     keeps-all (all rows) known = (tt, refl)
@@ -173,14 +173,14 @@ module _ (map : Tmesh) (mesh-sound : SoundMesh (map .mesh)) where
     unfolding generateKnotVectors allKnots
     generates = keeps-all (rowsFrom e map 128 0 (map .knots)) (known-rows 128 0 (map .knots))
 
-    pub generation-known : KnownOutcome (generateKnotVectors e map .outcome)
+    pub generation-known : MetOutcome (generateKnotVectors e map .outcome)
     generation-known = generates .0
 
     keeps : Keeps (withKnots e map)
     unfolding withKnots
     keeps = cond-case (map .kept) Keeps _ _ (λ k. (tt, refl)) (λ k. generates)
 
-    known-answer : (outcome : Outcome) (value : Evaluation) → KnownOutcome outcome → KnownEvaluation (answerBy outcome value)
+    known-answer : (outcome : Outcome) (value : Evaluation) → MetOutcome outcome → KnownEvaluation (answerBy outcome value)
     known-answer Done value known = tt
     known-answer (Refused refusal) value known = known
 
@@ -199,6 +199,6 @@ module _ (map : Tmesh) (mesh-sound : SoundMesh (map .mesh)) where
   sound-call e (evaluation s t) = subst SoundMesh (sym (evaluation-mesh e s t)) mesh-sound
 
   pub listing-call : (e : Float) (call : Call) (n : ℕ)
-      → isListed (mapAfter e map call) n ≡ ((listsPoint (answerTo e map call) && eqb n (map .mesh .store .made)) || isListed map n)
+      → isListed (mapAfter e map call) n ≡ ((listsPoint (answerTo e map call) && eqb n (storeOf map .made)) || isListed map n)
   listing-call e (insertion con d ratio position) n = insertion-lists e con d ratio position n
   listing-call e (evaluation s t) n = ap (λ (mesh : Mesh). getD (mesh .listed) n false) (evaluation-mesh e s t)

@@ -6,14 +6,17 @@ use Prim.Native.Nat.{ℕ, _<_}
 use mathlib.Core.Path.{_≡_}
 use mathlib.Core.Bool.{Bool, true, false, _&&_, _||_}
 use mathlib.Core.List.{List, [], _∷_}
+use mathlib.Core.Logic.{_⊎_}
 use lib.Dec.{eqb}
 use lib.Ieee.{Float}
 use Rattle.control_point.specs.Direction.{clockwiseOf, antiClockwiseOf}
 use Rattle.control_point.specs.declared.refusal.Outcome.the-variants.{Done, Refused}
+use Rattle.control_point.specs.Refusal.{refusalNumber}
+use Rattle.control_point.specs.declared.refusal.Refusal.{Refusal}
 use Rattle.control_point.specs.declared.refusal.Refusal.the-variants.{NoPoint}
 use Rattle.control_point.specs.declared.t_mesh_direction.TmeshDirection.{TmeshDirection}
 use Rattle.control_point.specs.declared.t_mesh_control_point.Side.the-variants.{Link, Opening}
-use Rattle.control_point.specs.declared.walk.Walk.the-variants.{Refused as NoWalk}
+use Rattle.navigation.specs.declared.walk.Walk.the-variants.{Refused as NoWalk}
 use Rattle.store.specs.Store.{storeSides, withSideAt, connectPoints, navigateUntilCon}
 use Rattle.store.specs.declared.store.Store.{Store}
 use Rattle.mirror.specs.Mirror.{Sound}
@@ -25,11 +28,11 @@ use Rattle.insertion.specs.declared.insertion.InsertAnswer.the-variants.{Torn, 
 use Rattle.ray.specs.Knots.{pointKnotVectors}
 use Rattle.ray.specs.Ray.{refused, rayOf}
 use Rattle.t_mesh.specs.Insertion.{isDone, isRefused, addControlPoint}
-use Rattle.t_mesh.specs.Tmesh.{isListed, newTmesh}
+use Rattle.t_mesh.specs.Tmesh.{storeOf, isListed, newTmesh}
 use Rattle.t_mesh.specs.declared.t_mesh.Position.{Position}
 use Rattle.t_mesh.specs.declared.t_mesh.Tmesh.{Tmesh}
 use Rattle.evaluation.specs.Evaluation.{subsOf}
-use Rattle.evaluation.specs.Knots.{generateKnotVectors}
+use Rattle.knot_vectors.specs.Knots.{generateKnotVectors}
 use Rattle.evaluation.specs.declared.evaluation.EvaluationAnswer.the-variants.{Refused as NoValue}
 use Rattle.calls.specs.Calls.{Call, Answer, inserted, evaluated, answerTo, mapAfter}
 
@@ -47,12 +50,12 @@ EveryMap Holds =
 
 -- Each link of a made point leads to another made point, whose facing side links back with the same interval, bit for bit.
 abbrev pub EveryMapMirrored : Type 0
-EveryMapMirrored = EveryMap (λ map. Sound (map .mesh .store))
+EveryMapMirrored = EveryMap (λ map. Sound (storeOf map))
 
 -- ---- the listing
 -- Each number that is listed is made.
 abbrev pub ListedIsMade : Type 0
-ListedIsMade = EveryMap (λ map. (n : ℕ) → isListed map n ≡ true → n < map .mesh .store .made)
+ListedIsMade = EveryMap (λ map. (n : ℕ) → isListed map n ≡ true → n < storeOf map .made)
 
 -- whether an answer is that of an insertion done
 abbrev pub listsPoint : Answer → Bool
@@ -66,7 +69,7 @@ ListingGrows =
     EveryMap
     (λ map.
     (e : Float) (call : Call) (n : ℕ)
-    → isListed (mapAfter e map call) n ≡ ((listsPoint (answerTo e map call) && eqb n (map .mesh .store .made)) || isListed map n))
+    → isListed (mapAfter e map call) n ≡ ((listsPoint (answerTo e map call) && eqb n (storeOf map .made)) || isListed map n))
 
 -- ---- the connects of an insertion
 -- a side of p that joins another point does so by a connect that is done
@@ -103,7 +106,7 @@ PlacingConnects =
     (λ map.
     (e : Float) (con : ℕ) (d : TmeshDirection) (ratio : Float) (position : Position)
     → isRefused (addControlPoint e map con d ratio position .answer) ≡ false
-    → Placing e (map .mesh .store) con d ratio (insertPoint e (map .mesh .store) (isListed map con) con d ratio))
+    → Placing e (storeOf map) con d ratio (insertPoint e (storeOf map) (isListed map con) con d ratio))
 
 -- ---- 11, no point
 -- no call on a map meets 11: no insertion is refused so, nor torn by a search that met it; no walk, no ray of any length and no building of
@@ -113,15 +116,27 @@ pub record MeetsPoints (map : Tmesh) : Type 0 where
       → addControlPoint e map con d ratio position .answer ≡ NotAdded NoPoint → ⊥
   pub tears : (e : Float) (con : ℕ) (d : TmeshDirection) (ratio : Float) (position : Position) (opened inferred : ℕ)
       → addControlPoint e map con d ratio position .answer ≡ Torn opened inferred NoPoint → ⊥
-  pub walks : (n : ℕ) → n < map .mesh .store .made → (travel watch : TmeshDirection)
-      → navigateUntilCon (map .mesh .store) n travel watch ≡ NoWalk NoPoint → ⊥
-  pub casts : (n : ℕ) → n < map .mesh .store .made → (e : Float) (d : TmeshDirection) (length : ℕ)
-      → rayOf e (storeSides (map .mesh .store)) (map .mesh .store .made) n d length ≡ refused NoPoint → ⊥
-  pub builds : (n : ℕ) → n < map .mesh .store .made → (e : Float)
-      → pointKnotVectors e (map .mesh .store) n .outcome ≡ Refused NoPoint → ⊥
+  pub walks : (n : ℕ) → n < storeOf map .made → (travel watch : TmeshDirection)
+      → navigateUntilCon (storeOf map) n travel watch ≡ NoWalk NoPoint → ⊥
+  pub casts : (n : ℕ) → n < storeOf map .made → (e : Float) (d : TmeshDirection) (length : ℕ)
+      → rayOf e (storeSides (storeOf map)) (storeOf map .made) n d length ≡ refused NoPoint → ⊥
+  pub builds : (n : ℕ) → n < storeOf map .made → (e : Float)
+      → pointKnotVectors e (storeOf map) n .outcome ≡ Refused NoPoint → ⊥
   pub generates : (e : Float) → generateKnotVectors e map .outcome ≡ Refused NoPoint → ⊥
   pub evaluates : (e s t : Float) → subsOf e map s t .answer ≡ NoValue NoPoint → ⊥
 
 -- Links and listing lead to made points only, so 11 does not arise.
 abbrev pub NoPointNever : Type 0
 NoPointNever = EveryMap MeetsPoints
+
+-- ---- what an evaluation is refused by
+-- one of a list
+abbrev pub OneOf : ℕ → List ℕ → Type 0
+OneOf n [] = ⊥
+OneOf n (m ∷ rest) = (n ≡ m) ⊎ OneOf n rest
+
+-- An evaluation is refused 3, 4 or 9, and by no other number.
+abbrev pub EvaluationRefusals : Type 0
+EvaluationRefusals =
+    EveryMap
+    (λ map. (e s t : Float) (refusal : Refusal) → subsOf e map s t .answer ≡ NoValue refusal → OneOf (refusalNumber refusal) (3 ∷ (4 ∷ (9 ∷ []))))

@@ -10,7 +10,7 @@ use Rattle.control_point.specs.Connect.{connectable}
 use Rattle.control_point.specs.Direction.{flipOf}
 use Rattle.control_point.specs.Point.{sideOf, withSide, movedFrom, loosePoint, isMade, isBorder, pointAt}
 use Rattle.control_point.specs.Sides.{Sides, sidesOf, sideAt}
-use Rattle.control_point.specs.Walk.{walkOf}
+use Rattle.navigation.specs.Walk.{walkOf}
 use Rattle.control_point.specs.declared.refusal.Outcome.{Outcome}
 use Rattle.control_point.specs.declared.refusal.Outcome.the-variants.{Done, Refused}
 use Rattle.control_point.specs.declared.refusal.Refusal.{Refusal}
@@ -21,7 +21,7 @@ use Rattle.control_point.specs.declared.t_mesh_direction.TmeshDirection.the-var
 use Rattle.control_point.specs.declared.t_mesh_control_point.Side.{Side}
 use Rattle.control_point.specs.declared.t_mesh_control_point.Side.the-variants.{Link, Border, Opening}
 use Rattle.control_point.specs.declared.t_mesh_control_point.TmeshControlPoint.{TmeshControlPoint}
-use Rattle.control_point.specs.declared.walk.Walk.{Walk}
+use Rattle.navigation.specs.declared.walk.Walk.{Walk}
 use Rattle.store.specs.declared.store.Store.{Store}
 use Rattle.store.specs.declared.store.Changed.{Changed}
 use Rattle.store.specs.declared.store.PointAnswer.{PointAnswer}

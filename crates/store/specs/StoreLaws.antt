@@ -1,27 +1,24 @@
--- Laws of a store: its sides after each change, and what a call is once its numbers are known to be made.
+-- Laws of a store: its sides after each change.
 use Prim.Native.Nat.{ℕ, _<_}
 use mathlib.Core.Path.{_≡_, refl, sym, ap, _∙_}
-use mathlib.Core.Bool.{Bool, true, false, cond, _&&_, false≢true}
+use mathlib.Core.Bool.{Bool, true, false, cond, _&&_}
 use native.Mathlib.Omega.{arith}
-use borrow.Author.Tests.{lt-ltb, eqb-true, ne-eqb}
+use borrow.Author.Tests.{lt-ltb, eqb-true}
 use lib.Dec.{eqb}
 use lib.Ieee.{Float}
 use lib.ListN.{length, length-set}
 use lib.Seq.{getD-set-other}
-use Rattle.control_point.specs.Connect.{connectable}
 use Rattle.control_point.specs.Direction.{flipOf, sameDirection}
-use Rattle.control_point.specs.Point.{sideOf, withSide, movedFrom, isMade, isOpening, isBorder, sideRefusal, blank}
-use Rattle.control_point.specs.PointLaws.{isMade-room, side-with, side-moved}
+use Rattle.control_point.specs.Point.{sideOf, withSide, movedFrom, blank}
+use Rattle.control_point.specs.PointLaws.{side-with, side-moved}
 use Rattle.control_point.specs.Sides.{Sides, sidesOf, sidesWith, sidesWithPoint}
 use Rattle.control_point.specs.SidesLaws.{sides-set}
-use Rattle.control_point.specs.declared.refusal.Refusal.the-variants.{NoPoint}
 use Rattle.control_point.specs.declared.t_mesh_direction.TmeshDirection.{TmeshDirection}
 use Rattle.control_point.specs.declared.t_mesh_direction.TmeshDirection.the-variants.{Up, Right, Down, Left}
 use Rattle.control_point.specs.declared.t_mesh_control_point.Side.{Side}
-use Rattle.control_point.specs.declared.t_mesh_control_point.Side.the-variants.{Link, Border, Opening}
+use Rattle.control_point.specs.declared.t_mesh_control_point.Side.the-variants.{Link, Opening}
 use Rattle.control_point.specs.declared.t_mesh_control_point.TmeshControlPoint.{TmeshControlPoint}
-use Rattle.store.specs.Connect.{mayConnect}
-use Rattle.store.specs.Store.{storeSides, storePoint, withPoint, withSideAt, withNew, linked, done, refused, settled, connectPoints, weighted, coordinated}
+use Rattle.store.specs.Store.{storeSides, storePoint, withPoint, withSideAt, withNew, linked, coordinated}
 use Rattle.store.specs.declared.store.Store.{Store}
 
 -- a number with room has the sides of its point
@@ -92,41 +89,3 @@ module _ (store : Store) (room : length (store .points) ≡ 128) (first other : 
       ∙ side-with (storePoint store other) (flipOf d) e (Link first interval)
       ∙ ap (λ (p : TmeshControlPoint). cond (sameDirection e (flipOf d)) (Link first interval) (sideOf p e)) (sym (getD-set-other (store .points) first other near blank apart)))
       ∙ ap (λ (sides : Sides). sidesWith sides other (flipOf d) (Link first interval)) (sides-side store room first h d (Link other interval))
-
--- ---- connecting: the points decide once both numbers are made
-both-true : (a b : Bool) → (a && b) ≡ true → (a ≡ true) × (b ≡ true)
-both-true true b h = (refl, h)
-both-true false b h = (h, absurd (false≢true h))
-
-module _ (store : Store) (first other : ℕ) where
-  abbrev pub BothMade : Type 0
-  BothMade = (isMade (store .made) first && isMade (store .made) other) ≡ true
-
-  pub first-room : BothMade → first < 128
-  first-room h = isMade-room (store .made) first (both-true _ _ h .0)
-
-  pub other-room : BothMade → other < 128
-  other-room h = isMade-room (store .made) other (both-true (isMade (store .made) first) _ h .1)
-
-  module _ (d : TmeshDirection) (interval : Float) where
-    pub connect-unmade : (isMade (store .made) first && isMade (store .made) other) ≡ false
-        → connectPoints store first other d interval ≡ refused store NoPoint
-    unfolding connectPoints connectable
-    connect-unmade h = simp h
-
-    pub connect-settled : BothMade
-        → connectPoints store first other d interval ≡ settled (mayConnect first other (storePoint store first) (storePoint store other) d) (linked store first other d interval) store
-    unfolding connectPoints connectable mayConnect
-    connect-settled h = simp (h, side-read store first d (first-room h), side-read store other (flipOf d) (other-room h))
-
-    pub connect-done : BothMade → (first ≡ other → ⊥) → isOpening (storeSides store first d) ≡ true → isOpening (storeSides store other (flipOf d)) ≡ true
-        → connectPoints store first other d interval ≡ done (linked store first other d interval)
-    unfolding connectPoints connectable
-    connect-done h apart near far = simp (h, ne-eqb first other apart, near, far)
-
--- ---- a border's weight: any other side is refused by what it is
-pub weighted-border : (store : Store) (n : ℕ) (d : TmeshDirection) (weight : Float) (side : Side)
-    → weighted store n d weight side ≡ cond (isBorder side) (done (withSideAt store n d (Border weight))) (refused store (sideRefusal side))
-weighted-border store n d weight (Link m interval) = refl
-weighted-border store n d weight (Border old) = refl
-weighted-border store n d weight Opening = refl

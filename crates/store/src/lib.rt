@@ -1,6 +1,3 @@
-// A store of numbered control points, and the calls on it.
-pub mod connect;
-pub mod edge;
-pub mod remove;
+// A store of numbered control points: what each call on it means, making a point, reading, and the walk.
 pub mod store;
 pub mod walk;

@@ -1,8 +1,8 @@
-// The store of up to 128 points: making one, and reading.
+// The store of up to 128 points: making one, reading, and storing a point anew.
 ghost use mathlib.Core.Path.{_≡_};
 ghost use mathlib.Core.Bool.{cond};
 ghost use Prim.Native.Nat.{_<_};
-ghost use Rattle.store.specs.Store.{emptyStore, makeLoose, readPoint, readSide, withPoint, done, refused};
+ghost use Rattle.store.specs.Store.{emptyStore, makeLoose, readPoint, readSide, storePoint, withPoint, done, refused};
 use control_point::refusal::Outcome;
 use control_point::refusal::Refusal;
 use control_point::sides::SideAnswer;
@@ -62,12 +62,30 @@ pub fn make_loose(store: Store, weight: f64) -> Changed
     }
 }
 
+// The point under a number.
+pub fn point_at(store: Store, n: u8) -> TmeshControlPoint
+    requires { ⌜ n < 128 ⌝ }
+    ensures { λ r. ⌜ r ≡ storePoint store n ⌝ }
+{
+    store.points[wide(n)]
+}
+
+// The store with another point under a number.
+pub fn with_point(store: Store, n: u8, point: TmeshControlPoint) -> Store
+    requires { ⌜ n < 128 ⌝ }
+    ensures { λ r. ⌜ r ≡ withPoint store n point ⌝ }
+{
+    let mut next = store;
+    next.points[wide(n)] = point;
+    next
+}
+
 pub fn read_point(store: Store, n: u8) -> PointAnswer
     ensures { λ r. ⌜ r ≡ readPoint store n ⌝ }
 {
     let made = store.made;
     if is_made(made, n) {
-        PointAnswer::Is(store.points[wide(n)])
+        PointAnswer::Is(point_at(store, n))
     } else {
         PointAnswer::Refused(Refusal::NoPoint)
     }
@@ -78,15 +96,14 @@ pub fn read_side(store: Store, n: u8, direction: TmeshDirection) -> SideAnswer
 {
     let made = store.made;
     if is_made(made, n) {
-        let point = store.points[wide(n)];
-        SideAnswer::Is(side_of(point, direction))
+        SideAnswer::Is(side_of(point_at(store, n), direction))
     } else {
         SideAnswer::Refused(Refusal::NoPoint)
     }
 }
 
 // The point stored under a number where a test was passed, the refusal where not.
-pub(crate) fn settle(
+pub fn settle(
     store: Store,
     n: u8,
     passed: bool,
@@ -102,10 +119,8 @@ pub(crate) fn settle(
             store,
         };
     }
-    let mut next = store;
-    next.points[wide(n)] = point;
     Changed {
         outcome: Outcome::Done,
-        store: next,
+        store: with_point(store, n, point),
     }
 }

@@ -4,8 +4,8 @@ ghost use Rattle.store.specs.Store.{navigateUntilCon};
 use crate::store::Store;
 use control_point::sides::fill;
 use control_point::t_mesh_direction::TmeshDirection;
-use control_point::walk::Walk;
-use control_point::walk::navigate;
+use navigation::walk::Walk;
+use navigation::walk::navigate;
 
 // Steps along travel, and stops at the first point whose watch side is a link.
 pub fn navigate_until_con(

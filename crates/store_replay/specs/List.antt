@@ -9,7 +9,7 @@ use Rattle.store.specs.declared.store.Store.{Store}
 use Rattle.stored_calls.specs.Call.{replayCall}
 use Rattle.stored_calls.specs.Points.{storeIsRight}
 use Rattle.stored_calls.specs.declared.call.Replayed.{Replayed}
-use Rattle.stored_numbers.specs.BigEndian.{byteAt, numberAt}
+use Rattle.big_endian.specs.BigEndian.{byteAt, numberAt}
 
 -- what follows a call: the bytes behind it, the store after it, and whether all calls so far were right
 abbrev pub onward : (List ℕ → Store → Bool → Bool) → List ℕ → Bool → Replayed → Bool

@@ -12,7 +12,7 @@ use Rattle.stored_calls.specs.Call.{replayCall}
 use Rattle.stored_calls.specs.CallLaws.{call-short}
 use Rattle.stored_calls.specs.Points.{storeIsRight}
 use Rattle.stored_calls.specs.declared.call.Replayed.{Replayed}
-use Rattle.stored_numbers.specs.BigEndian.{byteAt}
+use Rattle.big_endian.specs.BigEndian.{byteAt}
 use Rattle.store_replay.specs.List.{onward, callsAreRight}
 
 pub calls-none : (bytes : List ℕ) (store : Store) (right : Bool) → callsAreRight 0 bytes store right ≡ (right && storeIsRight store bytes)

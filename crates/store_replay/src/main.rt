@@ -1,6 +1,9 @@
 // Replays the stored lists of direct calls on a store, and says how many came out right. oracle/README.md has the format of data/cases.
 ghost use mathlib.Core.Path.{_≡_};
 ghost use Rattle.store_replay.specs.List.{isRight};
+use big_endian::after;
+use big_endian::byte_at;
+use big_endian::pair_at;
 use replay::Outcome;
 use replay::Tally;
 use replay::count_outcome;
@@ -10,9 +13,6 @@ use store::store::empty_store;
 use stored_calls::call::replay_call;
 use stored_calls::points::both;
 use stored_calls::points::store_is_right;
-use stored_numbers::after;
-use stored_numbers::byte_at;
-use stored_numbers::pair_at;
 
 // More lists than the file holds: the loop ends with the file.
 const MOST_LISTS: u64 = 1000000;

@@ -7,12 +7,12 @@ use lib.Dec.{eqb}
 use Rattle.control_point.specs.Direction.{directionNumbered}
 use Rattle.control_point.specs.Refusal.{refusalNumber, outcomeNumber}
 use Rattle.control_point.specs.declared.t_mesh_direction.TmeshDirection.{TmeshDirection}
-use Rattle.control_point.specs.declared.walk.Walk.{Walk}
-use Rattle.control_point.specs.declared.walk.Walk.the-variants.{Reached, Refused}
+use Rattle.navigation.specs.declared.walk.Walk.{Walk}
+use Rattle.navigation.specs.declared.walk.Walk.the-variants.{Reached, Refused}
 use Rattle.store.specs.Store.{makeLoose, connectPoints, removeConnection, removeEdgeCondition, setEdgeConWeight, setKnotCoordinates, navigateUntilCon}
 use Rattle.store.specs.declared.store.Changed.{Changed}
 use Rattle.store.specs.declared.store.Store.{Store}
-use Rattle.stored_numbers.specs.BigEndian.{byteAt, numberAt, floatAt}
+use Rattle.big_endian.specs.BigEndian.{byteAt, numberAt, floatAt}
 use Rattle.stored_calls.specs.Points.{hasBits}
 use Rattle.stored_calls.specs.declared.call.Replayed.{Replayed}
 

@@ -5,7 +5,7 @@ use mathlib.Core.List.{List}
 use native.Mathlib.Omega.{arith}
 use lib.Dec.{eqb, lit<}
 use Rattle.store.specs.declared.store.Store.{Store}
-use Rattle.stored_numbers.specs.BigEndian.{byteAt}
+use Rattle.big_endian.specs.BigEndian.{byteAt}
 use Rattle.stored_calls.specs.Call.{answerPlace, settled, change, replayWalk, replayCall, walkBytes}
 use Rattle.stored_calls.specs.declared.call.Replayed.{Replayed}
 

@@ -11,7 +11,7 @@ use Rattle.control_point.specs.declared.t_mesh_control_point.Side.{Side}
 use Rattle.control_point.specs.declared.t_mesh_control_point.Side.the-variants.{Link, Border, Opening}
 use Rattle.control_point.specs.declared.t_mesh_control_point.TmeshControlPoint.{TmeshControlPoint}
 use Rattle.store.specs.declared.store.Store.{Store}
-use Rattle.stored_numbers.specs.BigEndian.{byteAt, numberAt}
+use Rattle.big_endian.specs.BigEndian.{byteAt, numberAt}
 
 -- whether a float has the bits
 abbrev pub hasBits : Float → ℕ → Bool

@@ -10,7 +10,7 @@ use borrow.Author.Tests.{le-ltb}
 use Rattle.control_point.specs.Point.{pointAt}
 use Rattle.control_point.specs.declared.t_mesh_control_point.TmeshControlPoint.{TmeshControlPoint}
 use Rattle.store.specs.declared.store.Store.{Store}
-use Rattle.stored_numbers.specs.BigEndian.{byteAt}
+use Rattle.big_endian.specs.BigEndian.{byteAt}
 use Rattle.stored_calls.specs.Points.{pointIsRight, pointsAreRight, storeIsRight}
 
 -- no points are the ones stored

@@ -4,20 +4,20 @@ ghost use Prim.Native.Nat.{_<_};
 ghost use Rattle.stored_calls.specs.Call.{directionAt, change, answerPlace, settled, walkIsRight, walkBytes, replayWalk, replayCall};
 use crate::points::both;
 use crate::points::has_bits;
+use big_endian::byte_at;
+use big_endian::float_at;
+use big_endian::number_at;
+use connection::connect::connect;
+use connection::remove::remove_connection;
 use control_point::t_mesh_direction::TmeshDirection;
-use control_point::walk::Walk;
-use store::connect::connect;
-use store::edge::set_edge_con_weight;
-use store::edge::set_knot_coordinates;
-use store::remove::remove_connection;
-use store::remove::remove_edge_condition;
+use edge::coordinates::set_knot_coordinates;
+use edge::edge::remove_edge_condition;
+use edge::edge::set_edge_con_weight;
+use navigation::walk::Walk;
 use store::store::Changed;
 use store::store::Store;
 use store::store::make_loose;
 use store::walk::navigate_until_con;
-use stored_numbers::byte_at;
-use stored_numbers::float_at;
-use stored_numbers::number_at;
 
 // A call made: the store after it, whether it answered what is stored, and how many bytes it takes.
 pub struct Replayed {

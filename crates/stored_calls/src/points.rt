@@ -3,14 +3,14 @@ ghost use mathlib.Core.Path.{_≡_};
 ghost use mathlib.Core.Bool.{_&&_};
 ghost use Prim.Native.Nat.{_<_};
 ghost use Rattle.stored_calls.specs.Points.{hasBits, sideIsRight, sideIsAt, pointIsRight, storeIsRight};
-ghost use Rattle.stored_numbers.specs.BigEndian.{numberAt};
+ghost use Rattle.big_endian.specs.BigEndian.{numberAt};
+use big_endian::after;
+use big_endian::byte_at;
+use big_endian::number_at;
 use control_point::sides::wide;
 use control_point::t_mesh_control_point::Side;
 use control_point::t_mesh_control_point::TmeshControlPoint;
 use store::store::Store;
-use stored_numbers::after;
-use stored_numbers::byte_at;
-use stored_numbers::number_at;
 
 const CAPACITY: u8 = 128;
 

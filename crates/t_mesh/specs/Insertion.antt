@@ -10,7 +10,7 @@ use Rattle.insertion.specs.declared.insertion.Inserted.{Inserted}
 use Rattle.insertion.specs.declared.insertion.InsertAnswer.{InsertAnswer}
 use Rattle.insertion.specs.declared.insertion.InsertAnswer.the-variants.{Done, Torn, Refused}
 use Rattle.store.specs.declared.store.Store.{Store}
-use Rattle.t_mesh.specs.Tmesh.{listedIn, isListed}
+use Rattle.t_mesh.specs.Tmesh.{meshStore, storeOf, listedIn, isListed}
 use Rattle.t_mesh.specs.declared.t_mesh.Position.{Position}
 use Rattle.t_mesh.specs.declared.t_mesh.Mesh.{Mesh}
 use Rattle.t_mesh.specs.declared.t_mesh.Tmesh.{Tmesh}
@@ -33,12 +33,12 @@ isRefused (Refused refusal) = true
 -- with the store after an insertion, which made the point n at a position and lists it or not
 abbrev pub withPlaced : Mesh → Store → ℕ → Position → Bool → Mesh
 withPlaced mesh store n position listed =
-    record { store = store; positions = set (mesh .positions) n position; listed = set (mesh .listed) n listed }
+    record { points = store .points; made = store .made; positions = set (mesh .positions) n position; listed = set (mesh .listed) n listed }
 
 -- after an insertion, by its answer and the store that it left
 abbrev pub meshAfter : Mesh → Position → InsertAnswer → Store → Mesh
 meshAfter mesh position answer store =
-    cond (isRefused answer) mesh (withPlaced mesh store (mesh .store .made) position (isDone answer))
+    cond (isRefused answer) mesh (withPlaced mesh store (mesh .made) position (isDone answer))
 
 -- the answer, and the mesh after it
 abbrev pub answeredMesh : Mesh → Position → Inserted → InsertedMesh
@@ -48,7 +48,7 @@ answeredMesh mesh position inserted =
 -- an insertion, as far as it is the mesh's
 unfoldable pub insertIntoMesh : Float → Mesh → ℕ → TmeshDirection → Float → Position → InsertedMesh
 insertIntoMesh e mesh con d ratio position =
-    answeredMesh mesh position (insertPoint e (mesh .store) (listedIn (mesh .listed) con) con d ratio)
+    answeredMesh mesh position (insertPoint e (meshStore mesh) (listedIn (mesh .listed) con) con d ratio)
 
 -- ---- the map
 -- whether kept knots are still kept: done, they are dropped
@@ -68,4 +68,4 @@ answered map position inserted = record { answer = inserted .answer; map = after
 
 -- towards direction d of the point con, at a ratio of the link there; e is the closeness
 unfoldable pub addControlPoint : Float → Tmesh → ℕ → TmeshDirection → Float → Position → Added
-addControlPoint e map con d ratio position = answered map position (insertPoint e (map .mesh .store) (isListed map con) con d ratio)
+addControlPoint e map con d ratio position = answered map position (insertPoint e (storeOf map) (isListed map con) con d ratio)

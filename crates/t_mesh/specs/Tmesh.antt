@@ -12,6 +12,7 @@ use Rattle.control_point.specs.declared.t_mesh_control_point.Side.the-variants.
 use Rattle.control_point.specs.declared.t_mesh_control_point.TmeshControlPoint.{TmeshControlPoint}
 use Rattle.ray.specs.declared.knots.PointKnots.{PointKnots}
 use Rattle.store.specs.declared.store.Store.{Store}
+use Rattle.t_mesh.specs.declared.t_mesh.Mesh.{Mesh}
 use Rattle.t_mesh.specs.declared.t_mesh.Position.{Position}
 use Rattle.t_mesh.specs.declared.t_mesh.Tmesh.{Tmesh}
 
@@ -23,6 +24,13 @@ abbrev pub coordinate : Axis → Position → Float
 coordinate X p = p .x
 coordinate Y p = p .y
 coordinate Z p = p .z
+
+-- the store of a mesh, and of a map
+abbrev pub meshStore : Mesh → Store
+meshStore mesh = record { points = mesh .points; made = mesh .made }
+
+abbrev pub storeOf : Tmesh → Store
+storeOf map = meshStore (map .mesh)
 
 -- whether a listing has a number, and a map does
 abbrev pub listedIn : List Bool → ℕ → Bool
@@ -61,7 +69,8 @@ unfoldable pub newTmesh : Float → Position → Position → Position → Posit
 newTmesh weight bottomLeft bottomRight topRight topLeft =
     record {
       mesh = record {
-        store = cornerStore weight;
+        points = cornerStore weight .points;
+        made = cornerStore weight .made;
         positions = bottomLeft ∷ (bottomRight ∷ (topRight ∷ (topLeft ∷ replicate 124 origin)));
         listed = true ∷ (true ∷ (true ∷ (true ∷ replicate 124 false)));
       };

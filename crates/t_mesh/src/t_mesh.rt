@@ -1,6 +1,6 @@
 // The map and its parts.
 ghost use mathlib.Core.Path.{_≡_};
-ghost use Rattle.t_mesh.specs.Tmesh.{corner, cornerStore, listedIn, newTmesh};
+ghost use Rattle.t_mesh.specs.Tmesh.{meshStore, corner, cornerStore, listedIn, newTmesh};
 use control_point::t_mesh_control_point::Side;
 use control_point::t_mesh_control_point::TmeshControlPoint;
 use control_point::t_mesh_control_point::loose_point;
@@ -13,9 +13,10 @@ pub struct Position {
     pub z: f64,
 }
 
-// The points, their positions, and which of them are listed.
+// The points and how many are made, as in a store; their positions; which of them are listed.
 pub struct Mesh {
-    pub store: Store,
+    pub points: [TmeshControlPoint; 128],
+    pub made: u8,
     pub positions: [Position; 128],
     pub listed: [bool; 128],
 }
@@ -25,6 +26,17 @@ pub struct Tmesh {
     pub mesh: Mesh,
     pub kept: bool,
     pub knots: [PointKnots; 128],
+}
+
+// The store of a mesh, for the calls that take one.
+pub fn store_of(mesh: Mesh) -> Store
+    ensures { λ r. ⌜ r ≡ meshStore mesh ⌝ }
+{
+    let points = mesh.points;
+    Store {
+        points,
+        made: mesh.made,
+    }
 }
 
 // Whether a number is listed.
@@ -100,6 +112,7 @@ impl Tmesh {
         ensures { λ r. ⌜ r ≡ newTmesh weight «bottom_left» «bottom_right» «top_right» «top_left» ⌝ }
     {
         let store = corner_store(weight);
+        let points = store.points;
         let mut positions = [Position {
             x: 0.0,
             y: 0.0,
@@ -120,7 +133,8 @@ impl Tmesh {
         };
         Tmesh {
             mesh: Mesh {
-                store,
+                points,
+                made: store.made,
                 positions,
                 listed,
             },

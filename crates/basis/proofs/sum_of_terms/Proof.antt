@@ -1,9 +1,9 @@
 -- The loop has added the terms of the rows before the i-th.
-use mathlib.Core.Path.{_≡_, refl, ap, _∙_}
+use mathlib.Core.Path.{_≡_, refl, sym, ap, _∙_}
 use Prim.Native.Nat.{_≤_, _-_}
 use borrow.Author.Needs.{needs}
 use native.Mathlib.Omega.{arith}
-use lib.Ieee.{ofBits}
+use lib.Ieee.{Float, binary64, add, ofBits}
 use lib.ListN.{take}
 use lib.Seq.{take-all}
 use Rattle.basis.specs.Binary64.{binary64Arithmetic, knots}
@@ -41,7 +41,12 @@ loop-again : tie.Need-loop-again Inv-loop μ-loop
 loop-again c =
     let table = c .before .before .before .before .args .t3 in
     let count = c .before .before .before .before .pre .count in
-    (omega arith, cc (sum-row binary64Arithmetic _ _ _ table (c .before .before .before .loop .i) (omega arith)))
+    let l = c .before .before .before .loop in (
+      omega arith,
+      ap (λ (sum : Float). add binary64 sum (c .term .result)) (l .inv .1)
+          ∙ ap (add binary64 _) (c .term .ensures)
+          ∙ sym (sum-row binary64Arithmetic _ _ _ table (l .i) (omega arith)),
+    )
 
 returns : tie.Need-returns Inv-loop μ-loop
 returns c =

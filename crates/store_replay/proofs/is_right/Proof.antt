@@ -5,7 +5,7 @@ use native.Mathlib.Omega.{arith}
 use lib.ListN.{drop}
 use borrow.Author.Needs.{needs}
 use Rattle.stored_calls.specs.Call.{replayCall}
-use Rattle.stored_numbers.specs.BigEndian.{byteAt}
+use Rattle.big_endian.specs.BigEndian.{byteAt}
 use Rattle.store_replay.specs.List.{callsAreRight, isRight}
 use Rattle.store_replay.specs.ListLaws.{calls-none, calls-more, made-short}
 use Rattle.store_replay.proofs.is_right.Statement.{statement}

@@ -14,8 +14,8 @@ use Rattle.control_point.specs.declared.refusal.Refusal.the-variants.{NoPoint}
 use Rattle.float64.specs.Literals.{zeroLiteral}
 use Rattle.ray.specs.Ray.{Ray, entries, afterEntry, rayFrom, rayOf}
 use Rattle.ray.specs.RayLaws.{ray-end, ray-step, ray-unmade, ray-made, cast-refused, cast-done, behind, behind-none, behind-put}
-use Rattle.ray.specs.declared.entry.Entry.{Entry}
-use Rattle.ray.specs.declared.entry.Front.{Front}
+use Rattle.ray_entry.specs.declared.entry.Entry.{Entry}
+use Rattle.ray_entry.specs.declared.entry.Front.{Front}
 use Rattle.ray.proofs.ray.cast.Statement.{statement}
 use Rattle.ray.proofs.ray.cast.Tie as tie
 

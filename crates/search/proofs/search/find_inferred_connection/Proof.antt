@@ -6,9 +6,9 @@ use denote.Ref.{now}
 use lib.Ieee.{Float, binary64, ofBits}
 use Rattle.control_point.specs.Direction.{clockwiseOf, antiClockwiseOf}
 use Rattle.control_point.specs.Sides.{Sides, lentSides}
-use Rattle.control_point.specs.Walk.{walkOf}
+use Rattle.navigation.specs.Walk.{walkOf}
 use Rattle.control_point.specs.declared.t_mesh_direction.TmeshDirection.{TmeshDirection}
-use Rattle.control_point.specs.declared.walk.Walk.{Walk}
+use Rattle.navigation.specs.declared.walk.Walk.{Walk}
 use Rattle.search.proofs.search.find_inferred_connection.Statement.{statement}
 use Rattle.search.proofs.search.find_inferred_connection.Tie as tie
 use Rattle.search.specs.Search.{walked, seekFrom, findInferredConnection}

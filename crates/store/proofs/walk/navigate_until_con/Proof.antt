@@ -2,7 +2,7 @@
 use mathlib.Core.Path.{_∙_, ap}
 use borrow.Author.Needs.{needs}
 use Rattle.control_point.specs.Sides.{Sides}
-use Rattle.control_point.specs.Walk.{walkOf}
+use Rattle.navigation.specs.Walk.{walkOf}
 use Rattle.store.proofs.walk.navigate_until_con.Statement.{statement}
 use Rattle.store.proofs.walk.navigate_until_con.Tie as tie
 

@@ -33,7 +33,7 @@ array-write-listed-4 c = search needs
 
 returns : tie.Need-returns
 unfolding newTmesh
-returns c = rw (c .corner-store .ensures)
+returns c = rw (c .before .corner-store .ensures)
 
 pub new-spec : {M : Type 1} → statement M
 new-spec =

@@ -1,0 +1,3 @@
+// Linking two points of a store, and opening a connection.
+pub mod connect;
+pub mod remove;

@@ -1,0 +1,71 @@
+-- Laws of the knots of a map: a point's knots over the sides of its store, a turn of the loop over the numbers, and the map that keeps what it built.
+use Prim.Native.Nat.{ℕ, suc, _+_}
+use mathlib.Core.Path.{_≡_, refl, sym, ap, _∙_}
+use mathlib.Core.Bool.{Bool, true, false}
+use mathlib.Core.List.{List}
+use lib.Ieee.{Float}
+use lib.ListN.{set}
+use Rattle.control_point.specs.Point.{isMade}
+use Rattle.control_point.specs.Sides.{Sides}
+use Rattle.control_point.specs.declared.refusal.Outcome.the-variants.{Done, Refused}
+use Rattle.control_point.specs.declared.refusal.Refusal.{Refusal}
+use Rattle.control_point.specs.declared.t_mesh_direction.TmeshDirection.the-variants.{Up}
+use Rattle.ray.specs.Knots.{knotsAt, pointKnotVectors}
+use Rattle.ray.specs.RayLaws.{ray-unmade}
+use Rattle.ray.specs.declared.knots.KnotsAnswer.{KnotsAnswer}
+use Rattle.ray.specs.declared.knots.PointKnots.{PointKnots}
+use Rattle.store.specs.Store.{storeSides, storePoint}
+use Rattle.store.specs.declared.store.Store.{Store}
+use Rattle.t_mesh.specs.Tmesh.{storeOf, isListed}
+use Rattle.t_mesh.specs.declared.t_mesh.Tmesh.{Tmesh}
+use Rattle.knot_vectors.specs.Knots.{AllKnots, all, none, onAll, inRow, withRow, rowsFrom, keeping, heldKnots, isDone}
+use Rattle.knot_vectors.specs.declared.knots.Generated.{Generated}
+use Rattle.knot_vectors.specs.declared.knots.ListedKnots.{ListedKnots}
+
+-- over sides that are a store's, also where the number was never made: its rays say so
+module _ (e : Float) (store : Store) (n : ℕ) where
+  abbrev overStore : KnotsAnswer
+  overStore = knotsAt e (storeSides store) (store .made) n (storePoint store n .s) (storePoint store n .t)
+
+  by-made : (b : Bool) → isMade (store .made) n ≡ b → overStore ≡ pointKnotVectors e store n
+  unfolding pointKnotVectors knotsAt
+  by-made true h = simp h
+  by-made false h = simp (h, ray-unmade e (storeSides store) (store .made) Up n 2 h)
+
+  pub knots-over : (sides : Sides) → sides ≡ storeSides store
+      → knotsAt e sides (store .made) n (storePoint store n .s) (storePoint store n .t) ≡ pointKnotVectors e store n
+  knots-over sides h =
+      ap (λ (f : Sides). knotsAt e f (store .made) n (storePoint store n .s) (storePoint store n .t)) h ∙ by-made (isMade (store .made) n) refl
+
+-- ---- a turn of the loop
+module _ (e : Float) (map : Tmesh) (n : ℕ) (rows : List PointKnots) where
+  pub rows-end : (left : ℕ) → left ≡ 0 → rowsFrom e map left n rows ≡ all rows
+  unfolding rowsFrom
+  rows-end left h = simp h
+
+  rows-step : (left more : ℕ) → left ≡ suc more
+      → rowsFrom e map left n rows ≡ onAll (withRow e map n rows) (λ filled. rowsFrom e map more (n + 1) filled)
+  unfolding rowsFrom
+  rows-step left more h = simp h
+
+  module _ (left more : ℕ) (h : left ≡ suc more) where
+    pub rows-passed : isListed map n ≡ false → rowsFrom e map left n rows ≡ rowsFrom e map more (n + 1) rows
+    rows-passed l = rows-step left more h ∙ simp l
+
+    module _ (built : KnotsAnswer) (k : built ≡ pointKnotVectors e (storeOf map) n) (l : isListed map n ≡ true) where
+      in-row : rowsFrom e map left n rows ≡ onAll (inRow (built .outcome) (built .knots) n rows) (λ filled. rowsFrom e map more (n + 1) filled)
+      in-row = rows-step left more h ∙ simp (l, sym k)
+
+      pub rows-put : built .outcome ≡ Done → rowsFrom e map left n rows ≡ rowsFrom e map more (n + 1) (set rows n (built .knots))
+      rows-put o = in-row ∙ simp o
+
+      pub rows-refused : (refusal : Refusal) → built .outcome ≡ Refused refusal → rowsFrom e map left n rows ≡ none refusal
+      rows-refused refusal o = in-row ∙ simp o
+
+-- ---- the map that keeps them
+abbrev pub keepingHeld : Tmesh → ListedKnots → Generated
+keepingHeld map held = record { outcome = held .outcome; map = record { mesh = map .mesh; kept = isDone (held .outcome); knots = held .knots } }
+
+pub keeping-held : (map : Tmesh) (rows : AllKnots) → keepingHeld map (heldKnots (map .knots) rows) ≡ keeping map rows
+keeping-held map (all rows) = refl
+keeping-held map (none refusal) = refl

@@ -1,0 +1,2 @@
+// The knots of all listed points of a map.
+pub mod knots;

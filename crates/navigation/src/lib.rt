@@ -1,0 +1,2 @@
+// The walk over the links of a mesh.
+pub mod walk;

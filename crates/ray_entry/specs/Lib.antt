@@ -1,0 +1,3 @@
+pub mod Approach
+pub mod Entry
+pub mod ApproachLaws

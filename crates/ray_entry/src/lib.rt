@@ -1,0 +1,3 @@
+// One entry of a ray, and where the ray then stands.
+pub mod approach;
+pub mod entry;
