@@ -6,8 +6,10 @@ mod calls;
 mod compare;
 mod differences;
 mod draw;
-mod map_cases;
+mod file_cases;
 mod map_calls;
+mod map_cases;
+mod map_file;
 mod original;
 mod proved;
 mod random;
@@ -23,6 +25,7 @@ fn main() {
         Some("basis") => basis_cases::write(SEED),
         Some("store") => store_cases::write(SEED),
         Some("map") => map_cases::write(SEED),
+        Some("files") => file_cases::write(SEED),
         Some("compare") => {
             let maps = words.get(1).map_or(20000, |word| word.parse().expect("a number of maps"));
             let seed = words.get(2).map_or(SEED, |word| word.parse().expect("a seed"));
@@ -40,6 +43,6 @@ fn main() {
         }
         Some("differences") => differences::show(),
         Some("published-side") => differences::published_side(words[1].parse().expect("the number of an example")),
-        _ => println!("words: basis store map compare proved bound differences"),
+        _ => println!("words: basis store map files compare proved bound differences"),
     }
 }

@@ -12,10 +12,10 @@ const DIRECT_CALLS: usize = 60;
 const FULL_STORES: usize = 4;
 const EVERY_LENGTH: [usize; 6] = [0, 1, 2, 3, 4, 5];
 
-const SQUARE: [[f64; 3]; 4] = [[0.0, 0.0, 0.0], [1.0, 0.0, 0.0], [1.0, 1.0, 1.0], [0.0, 1.0, 1.0]];
+pub const SQUARE: [[f64; 3]; 4] = [[0.0, 0.0, 0.0], [1.0, 0.0, 0.0], [1.0, 1.0, 1.0], [0.0, 1.0, 1.0]];
 
 /// Edits after which a cap decides: the search and the approach of a ray that end with the last move allowed, or need one more.
-const AT_THE_CAPS: [&[(u8, usize, f64)]; 5] = [
+pub const AT_THE_CAPS: [&[(u8, usize, f64)]; 5] = [
     &[
         (3, 1, 3e-7),
         (0, 1, 0.0),
@@ -67,7 +67,7 @@ const AT_THE_CAPS: [&[(u8, usize, f64)]; 5] = [
 ];
 
 /// Edits after which a ray goes around a second opening and is then nearer to a point than it would be otherwise.
-const AROUND_TWICE: &[(u8, usize, f64)] = &[
+pub const AROUND_TWICE: &[(u8, usize, f64)] = &[
     (1, 0, 0.25),
     (2, 3, 0.5),
     (1, 3, 0.5),

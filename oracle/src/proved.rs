@@ -5,6 +5,7 @@ use crate::basis_cases;
 use crate::bound;
 use crate::compare::Tally;
 use crate::draw::{MapList, Plan, full_map, map, parameter};
+use crate::file_cases;
 use crate::map_calls::MapCall;
 use crate::map_cases;
 use crate::random::Random;
@@ -183,6 +184,25 @@ fn bases(random: &mut Random, count: usize) -> usize {
     )
 }
 
+fn files(random: &mut Random, count: usize) -> usize {
+    judge(
+        "file_replay",
+        count,
+        |place| {
+            let case = file_cases::fresh(random, place);
+            let bytes = file_cases::encoded(&case);
+            (case, bytes)
+        },
+        |program, case| match case.edits() {
+            Some((file, edits)) => {
+                let again = |edits: &[_]| file_cases::encoded(&case.with_edits(&file, edits));
+                format!("border {:?}, corners {:?}{}", file.border, file.corners, lines(&program.shrink(&edits, again)))
+            }
+            None => format!("a refused file of {} bytes", case.length()),
+        },
+    )
+}
+
 /// So many evaluations with hostile numbers: none outside 0 to 1, and the proved program gives the same bits.
 pub fn bound(seed: u64, evaluations: usize) {
     let mut random = Random::new(seed);
@@ -197,9 +217,10 @@ pub fn bound(seed: u64, evaluations: usize) {
     assert_eq!((different, tried.outside), (0, 0));
 }
 
-/// So many maps, as many lists of direct calls and six times as many basis cases, all from one seed.
+/// So many maps, as many map files and lists of direct calls, and six times as many basis cases, all from one seed.
 pub fn compare(seed: u64, count: usize) {
     let mut random = Random::new(seed);
-    let different = maps(&mut random, count) + stores(&mut random, count) + bases(&mut random, 6 * count);
+    let different =
+        maps(&mut random, count) + files(&mut random, count) + stores(&mut random, count) + bases(&mut random, 6 * count);
     assert_eq!(different, 0, "the proved programs and the published Rust differ");
 }

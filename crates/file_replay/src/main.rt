@@ -1,0 +1,121 @@
+// Replays the stored map files, and says how many came out right: the text of each, and what the C call answers with it. oracle/README.md has the format of data/cases.
+mod judge;
+
+use crate::judge::CALL_BYTES;
+use crate::judge::FILLER;
+use crate::judge::call_is_right;
+use crate::judge::text_is_right;
+use big_endian::after;
+use big_endian::byte_at;
+use big_endian::pair_at;
+use control_point::sides::wide;
+use replay::Outcome;
+use replay::Tally;
+use replay::count_outcome;
+use replay::is_end;
+use replay::outcome_of;
+use stored_calls::points::both;
+
+// More cases than the file holds: the loop ends with the file.
+const MOST_CASES: u64 = 1000000;
+
+// A report's page, and where its buffer ends: 32,768 bytes have room for every report, and as many fillers stand behind as before. In a call's page a buffer of 64
+// bytes has as many.
+const TEXT_PAGE: usize = 32800;
+
+const TEXT_END: usize = 32784;
+
+const CALL_PAGE: usize = 96;
+
+fn text_right(file: &[u8], text: &[u8]) -> bool {
+    let mut page = [FILLER; TEXT_PAGE];
+    text_is_right(file, text, TEXT_END, &mut page)
+}
+
+fn call_right(file: &[u8], call: &[u8]) -> bool {
+    let mut page = [FILLER; CALL_PAGE];
+    call_is_right(file, call, &mut page)
+}
+
+// Whether all calls stored for a file are right, and nothing stands behind them.
+fn calls_right(file: &[u8], calls: &[u8]) -> bool {
+    let mut right = true;
+    let mut left = wide(byte_at(calls, 0));
+    let mut at: usize = 1;
+    while 0 < left {
+        right = both(right, call_right(file, after(calls, at)));
+        at += CALL_BYTES;
+        left -= 1;
+    }
+    both(right, calls.len() == at)
+}
+
+// Whether the text behind the file, and the calls behind that, are right.
+fn behind_is_right(file: &[u8], behind: &[u8]) -> bool {
+    let length = pair_at(behind, 0);
+    let rest = after(behind, 2);
+    if rest.len() < length {
+        return false;
+    }
+    let calls = after(rest, length);
+    both(text_right(file, &rest[0..length]), calls_right(file, calls))
+}
+
+fn is_right(case: &[u8]) -> bool {
+    let length = pair_at(case, 0);
+    let rest = after(case, 2);
+    if rest.len() < length {
+        return false;
+    }
+    behind_is_right(&rest[0..length], after(rest, length))
+}
+
+// Fills so many bytes of a buffer, or says that there are no more.
+fn fill(descriptor: i32, buffer: &mut [u8], bytes: usize) -> bool {
+    if bytes <= buffer.len() {
+        return io::read_full(descriptor, &mut buffer[0..bytes]) == bytes;
+    }
+    false
+}
+
+fn judged(buffer: &[u8], bytes: usize) -> Outcome {
+    if bytes <= buffer.len() {
+        return outcome_of(is_right(&buffer[0..bytes]));
+    }
+    Outcome::Wrong
+}
+
+fn next_outcome(descriptor: i32) -> Outcome {
+    let mut length = [0u8; 2];
+    let mut case = io::large_buffer();
+    if !fill(descriptor, &mut length, 2) {
+        return Outcome::End;
+    }
+    let bytes = pair_at(&length, 0);
+    if !fill(descriptor, &mut case, bytes) {
+        return Outcome::Wrong;
+    }
+    judged(&case, bytes)
+}
+
+fn replayed(descriptor: i32) -> Tally {
+    let mut tally = Tally { right: 0, wrong: 0 };
+    let mut left = MOST_CASES;
+    while 0 < left {
+        let outcome = next_outcome(descriptor);
+        if is_end(outcome) {
+            return tally;
+        }
+        tally = count_outcome(tally, outcome);
+        left -= 1;
+    }
+    tally
+}
+
+fn main() {
+    let descriptor = replay::open_cases();
+    if 0 <= descriptor {
+        replay::report(replayed(descriptor));
+        libc::close(descriptor);
+    }
+}

@@ -1,0 +1,257 @@
+-- The bound for files: a file's edits and one evaluation are a list of calls, to which the bound over lists applies; what the call wrote of its answer is read
+-- back as it was.
+use Prim.Native.Nat.{ℕ, zero, suc, _+_, _≤_, _<_}
+use mathlib.Core.Path.{_≡_, refl, sym, ap, _∙_, subst}
+use mathlib.Core.Bool.{Bool, true, false, cond, true≢false}
+use mathlib.Core.List.{List, [], _∷_, _++_, append-assoc}
+use native.Mathlib.Omega.{arith}
+use lib.Dec.{T, leb, eqb, leb→le, lit<}
+use lib.Ieee.{Float, inf, binary64, ofBits, toBits, lt, le, fits}
+use lib.Ieee.Bits.{toBits-lt}
+use lib.Ieee.Fits.{and-l, and-r, div-fits}
+use lib.ListN.{length, length-append}
+use Rattle.float64.specs.BitsLaws.{read-back}
+use Rattle.float64.specs.Literals.{zeroLiteral}
+use Rattle.float64.specs.Sign.{0f}
+use Rattle.float64.specs.SignLaws.{literal-zero}
+use Rattle.big_endian.specs.BigEndian.{byteAt, numberAt, floatAt}
+use Rattle.big_endian.specs.ReadBackLaws.{number-back}
+use Rattle.big_endian.specs.Written.{written, bytesOf}
+use Rattle.big_endian.specs.WrittenLaws.{length-bytes}
+use Rattle.control_point.specs.Refusal.{refusalNumber}
+use Rattle.control_point.specs.Small.{millionth}
+use Rattle.control_point.specs.declared.refusal.Outcome.{Outcome}
+use Rattle.control_point.specs.declared.refusal.Outcome.the-variants.{Done, Refused as NotBuilt}
+use Rattle.control_point.specs.declared.refusal.Refusal.{Refusal}
+use Rattle.control_point.specs.declared.refusal.Refusal.the-variants.{Ratio, Foreign, OpenSide, BorderSide, Taken, Interval, Itself, Torn, Ring, Full, NoPoint, Length, Version, Heading, NoWeight, Short}
+use Rattle.insertion.specs.Insert.{answerNumber}
+use Rattle.t_mesh.specs.Tmesh.{Axis, X, Y, Z, coordinate}
+use Rattle.t_mesh.specs.declared.t_mesh.Position.{Position}
+use Rattle.t_mesh.specs.declared.t_mesh.Tmesh.{Tmesh}
+use Rattle.evaluation.specs.Evaluation.{onAxis, evaluationNumber, valueOf, answerBy, withKnots, weighty, setPoint, subsOf, noPosition}
+use Rattle.evaluation.specs.declared.evaluation.Evaluation.{Evaluation}
+use Rattle.evaluation.specs.declared.evaluation.EvaluationAnswer.{EvaluationAnswer}
+use Rattle.evaluation.specs.declared.evaluation.EvaluationAnswer.the-variants.{Is, Refused}
+use Rattle.calls.specs.Calls.{Call, insertion, evaluation, Answer, inserted, evaluated, Event, runOf}
+use Rattle.calls.specs.FullStroke.{InUnit, Each, DoneInUnit as CallDoneInUnit, EvaluationInUnit}
+use Rattle.calls.specs.FullStrokeProof.{never-past-full-stroke}
+use Rattle.mirror.specs.BoolLaws.{cond-case}
+use Rattle.map_file.specs.Format.{versionAt, theVersion, borderAt, editsAt, editCount, editsFrom, lengthRight, headingsRight, checkedFile}
+use Rattle.map_file.specs.Run.{cornerOf, freshMap, edited, afterEdits, editNumbers, fileMap, asSetPoint, checkedSetPoint, fileSetPoint}
+use Rattle.map_file.specs.declared.format.Edit.{Edit}
+use Rattle.map_file.specs.declared.format.FileCheck.{FileCheck}
+use Rattle.map_file.specs.declared.format.FileCheck.the-variants.{Valid, Refused as NotValid}
+use Rattle.gatemap_host.specs.SetPoint.{bitsOf, bytesOfValue, hostAnswer, bufferAfter, hostBuffer}
+use Rattle.file_soundness.specs.CallsLaws.{callOf, callsOf}
+use Rattle.file_soundness.specs.Theorems.{DoneInUnit, placeOf, FileNeverPastFullStroke}
+
+-- ---- the list of calls
+-- the edits, then one evaluation
+abbrev withEvaluation : List Edit → Float → Float → List Call
+withEvaluation edits s t = callsOf edits ++ (evaluation s t ∷ [])
+
+abbrev isInsertion : Call → Type 0
+isInsertion (insertion con d ratio position) = Unit {0}
+isInsertion (evaluation s t) = ⊥
+
+abbrev positionIn : Call → Position
+positionIn (insertion con d ratio position) = position
+positionIn (evaluation s t) = noPosition
+
+abbrev numberOf : Answer → ℕ
+numberOf (inserted answer) = answerNumber answer
+numberOf (evaluated answer) = evaluationNumber answer
+
+module _ (axis : Axis) (e s t : Float) where
+  done-calls : (edits : List Edit) (map : Tmesh) → DoneInUnit axis edits (editNumbers e map edits)
+      → Each (CallDoneInUnit axis) (runOf e map (withEvaluation edits s t))
+  unfolding editNumbers callsOf runOf
+  done-calls [] map done = ((λ con d ratio position opened links is answered. absurd (subst isInsertion (sym is) tt)), tt)
+  done-calls (edit ∷ rest) map done = (
+    (λ con d ratio position opened links is answered.
+        subst (λ (own : Position). InUnit (coordinate axis own)) (ap positionIn is) (done .0 (ap numberOf answered))),
+    done-calls rest (edited e map edit .map) (done .1),
+  )
+
+  -- what is said of the last call
+  last-call : (edits : List Edit) (map : Tmesh) → Each (EvaluationInUnit axis) (runOf e map (withEvaluation edits s t))
+      → EvaluationInUnit axis (record { call = evaluation s t; answer = evaluated (subsOf e (afterEdits e map edits) s t .answer) })
+  unfolding afterEdits callsOf runOf
+  last-call [] map each = each .0
+  last-call (edit ∷ rest) map each = last-call rest (edited e map edit .map) (each .1)
+
+-- ---- the answer
+abbrev isValue : EvaluationAnswer → Type 0
+isValue (Is value) = Unit {0}
+isValue (Refused refusal) = ⊥
+
+abbrev valueIn : Evaluation → EvaluationAnswer → Evaluation
+valueIn other (Is value) = value
+valueIn other (Refused refusal) = other
+
+-- a set-point is the value, and its weight is positive and finite
+chosen : (b : Bool) (own value : Evaluation) → cond b (Is own) (Refused NoWeight) ≡ Is value → (own ≡ value) × T b
+chosen true own value is = (ap (valueIn own) is, tt)
+chosen false own value is = absurd (subst isValue (sym is) tt)
+
+set-point-is : (answer : EvaluationAnswer) (value : Evaluation) → asSetPoint answer ≡ Is value → (answer ≡ Is value) × T (weighty value)
+unfolding setPoint
+set-point-is (Is own) value is =
+    let both = chosen (weighty own) own value is in (ap Is (both .0), subst (λ (v : Evaluation). T (weighty v)) (both .0) (both .1))
+set-point-is (Refused refusal) value is = absurd (subst isValue (sym is) tt)
+
+-- a value of an evaluation is a quotient on each axis
+quotient-fits : (axis : Axis) (map : Tmesh) (s t : Float) → T (fits binary64 (onAxis axis (valueOf map s t)))
+unfolding valueOf
+quotient-fits X map s t = div-fits binary64 _ _
+quotient-fits Y map s t = div-fits binary64 _ _
+quotient-fits Z map s t = div-fits binary64 _ _
+
+answer-fits : (axis : Axis) (outcome : Outcome) (map : Tmesh) (s t : Float) (value : Evaluation) → answerBy outcome (valueOf map s t) ≡ Is value
+    → T (fits binary64 (onAxis axis value))
+answer-fits axis Done map s t value is = subst (λ (v : Evaluation). T (fits binary64 (onAxis axis v))) (ap (valueIn value) is) (quotient-fits axis map s t)
+answer-fits axis (NotBuilt refusal) map s t value is = absurd (subst isValue (sym is) tt)
+
+value-fits : (axis : Axis) (e : Float) (map : Tmesh) (s t : Float) (value : Evaluation) → subsOf e map s t .answer ≡ Is value → T (fits binary64 (onAxis axis value))
+unfolding subsOf
+value-fits axis e map s t value is = answer-fits axis (withKnots e map .outcome) (withKnots e map .map) s t value is
+
+-- no refusal has the number 0
+numbered : (refusal : Refusal) → refusalNumber refusal ≡ 0 → ⊥
+numbered Ratio h = omega arith
+numbered Foreign h = omega arith
+numbered OpenSide h = omega arith
+numbered BorderSide h = omega arith
+numbered Taken h = omega arith
+numbered Interval h = omega arith
+numbered Itself h = omega arith
+numbered Torn h = omega arith
+numbered Ring h = omega arith
+numbered Full h = omega arith
+numbered NoPoint h = omega arith
+numbered Length h = omega arith
+numbered Version h = omega arith
+numbered Heading h = omega arith
+numbered NoWeight h = omega arith
+numbered Short h = omega arith
+
+-- ---- the buffer
+-- a float that was written is read back
+float-back : (x : Float) (before rest out : List ℕ) → T (fits binary64 x) → length (before ++ (bitsOf x ++ rest)) ≤ length out
+    → floatAt (written out 0 (before ++ (bitsOf x ++ rest))) (length before) ≡ x
+float-back x before rest out fit room = ap (ofBits binary64) (number-back 8 (toBits binary64 x) before rest out (toBits-lt binary64 x fit) room) ∙ read-back x fit
+
+length-value : (value : Evaluation) → length (bytesOfValue value) ≡ 32
+length-value value =
+    let x = bitsOf (value .x) in
+    let y = bitsOf (value .y) in
+    let z = bitsOf (value .z) in
+    let w = bitsOf (value .weight) in
+    omega (
+      arith,
+      length-append x (y ++ (z ++ w)),
+      length-append y (z ++ w),
+      length-append z w,
+      length-bytes 8 (toBits binary64 (value .x)),
+      length-bytes 8 (toBits binary64 (value .y)),
+      length-bytes 8 (toBits binary64 (value .z)),
+      length-bytes 8 (toBits binary64 (value .weight)),
+    )
+
+written-back : (axis : Axis) (value : Evaluation) (out : List ℕ) → T (fits binary64 (onAxis axis value)) → 32 ≤ length out
+    → floatAt (written out 0 (bytesOfValue value)) (placeOf axis) ≡ onAxis axis value
+written-back X value out fit room =
+    float-back (value .x) [] (bitsOf (value .y) ++ (bitsOf (value .z) ++ bitsOf (value .weight))) out fit (subst (λ (n : ℕ). n ≤ length out) (sym (length-value value)) room)
+written-back Y value out fit room =
+    subst (λ (place : ℕ). floatAt (written out 0 (bytesOfValue value)) place ≡ value .y) (length-bytes 8 (toBits binary64 (value .x)))
+    (float-back (value .y) (bitsOf (value .x)) (bitsOf (value .z) ++ bitsOf (value .weight)) out fit (subst (λ (n : ℕ). n ≤ length out) (sym (length-value value)) room))
+written-back Z value out fit room =
+    let x = bitsOf (value .x) in
+    let y = bitsOf (value .y) in
+    let rest = bitsOf (value .z) ++ bitsOf (value .weight) in
+    let same = append-assoc x y rest in
+    let place : length (x ++ y) ≡ 16 =
+    omega (arith, length-append x y, length-bytes 8 (toBits binary64 (value .x)), length-bytes 8 (toBits binary64 (value .y))) in
+    subst (λ (at : ℕ). floatAt (written out 0 (bytesOfValue value)) at ≡ value .z) place
+    (subst (λ (text : List ℕ). floatAt (written out 0 text) (length (x ++ y)) ≡ value .z) same
+    (float-back (value .z) (x ++ y) (bitsOf (value .weight)) out fit
+    (subst (λ (text : List ℕ). length text ≤ length out) (sym same) (subst (λ (n : ℕ). n ≤ length out) (sym (length-value value)) room))))
+
+-- ---- the call
+-- the count of a valid file is that of its length
+abbrev OwnCount : List ℕ → FileCheck → Type 0
+OwnCount file (Valid count) = count ≡ editCount file
+OwnCount file (NotValid refusal) = Unit {0}
+
+own-count : (file : List ℕ) → OwnCount file (checkedFile file)
+unfolding checkedFile
+own-count file =
+    cond-case (lengthRight file) (OwnCount file) _ _
+    (λ h.
+    cond-case (eqb (byteAt file versionAt) theVersion) (OwnCount file) _ _
+    (λ k. cond-case (headingsRight (editCount file) file editsAt) (OwnCount file) _ _ (λ l. refl) (λ l. tt))
+    (λ k. tt))
+    (λ h. tt)
+
+module _ (file : List ℕ) (axis : Axis) (s t : Float) where
+  abbrev edits : List Edit
+  edits = editsFrom (editCount file) file editsAt
+
+  abbrev left : Tmesh
+  left = fileMap millionth file (editCount file)
+
+  module _
+      (border : T (le 0f (floatAt file borderAt)))
+      (corners : (k : ℕ) → k < 4 → InUnit (coordinate axis (cornerOf file k)))
+      (done : DoneInUnit axis edits (editNumbers millionth (freshMap file) edits))
+    where
+      -- an evaluation of the map that the edits leave
+      evaluated-in-unit : EvaluationInUnit axis (record { call = evaluation s t; answer = evaluated (subsOf millionth left s t .answer) })
+      evaluated-in-unit =
+          last-call axis millionth s t edits (freshMap file)
+          (never-past-full-stroke millionth (floatAt file borderAt) (cornerOf file 0) (cornerOf file 1) (cornerOf file 2) (cornerOf file 3)
+          (withEvaluation edits s t) axis border (corners 0 (lit< tt)) (corners 1 (lit< tt)) (corners 2 (lit< tt)) (corners 3 (lit< tt))
+          (done-calls axis millionth s t edits (freshMap file) done))
+
+      -- the set-point of a value
+      in-unit : (value : Evaluation) → asSetPoint (subsOf millionth left s t .answer) ≡ Is value → InUnit (onAxis axis value) × T (fits binary64 (onAxis axis value))
+      in-unit value is =
+          let both = set-point-is (subsOf millionth left s t .answer) value is in
+          let positive = lt zeroLiteral (value .weight) in
+          let finite = lt (value .weight) (inf false) in (
+            evaluated-in-unit value (ap evaluated (both .0))
+                (subst (λ (zero : Float). T (lt zero (value .weight))) literal-zero (and-l positive finite (both .1)))
+                (and-r positive finite (both .1)),
+            value-fits axis millionth left s t value (both .0),
+          )
+
+      -- a file that is valid has its own count of edits
+      checked-in-unit : (check : FileCheck) → OwnCount file check → (value : Evaluation) → checkedSetPoint millionth file s t check ≡ Is value
+          → InUnit (onAxis axis value) × T (fits binary64 (onAxis axis value))
+      checked-in-unit (Valid count) own value is =
+          in-unit value (subst (λ (n : ℕ). asSetPoint (subsOf millionth (fileMap millionth file n) s t .answer) ≡ Is value) own is)
+      checked-in-unit (NotValid refusal) own value is = absurd (subst isValue (sym is) tt)
+
+-- what the buffer holds, by the answer
+buffer-in-unit : (axis : Axis) (answer : EvaluationAnswer) (out : List ℕ) → 32 ≤ length out
+    → ((value : Evaluation) → answer ≡ Is value → InUnit (onAxis axis value) × T (fits binary64 (onAxis axis value)))
+    → evaluationNumber answer ≡ 0
+    → InUnit (floatAt (bufferAfter answer out) (placeOf axis))
+buffer-in-unit axis (Is value) out room says answered = subst InUnit (sym (written-back axis value out (says value refl .1) room)) (says value refl .0)
+buffer-in-unit axis (Refused refusal) out room says answered = absurd (numbered refusal answered)
+
+-- with room for a value or without
+with-room : (axis : Axis) (enough : Bool) (answer : EvaluationAnswer) (out : List ℕ) → (T enough → 32 ≤ length out)
+    → ((value : Evaluation) → answer ≡ Is value → InUnit (onAxis axis value) × T (fits binary64 (onAxis axis value)))
+    → evaluationNumber (cond enough answer (Refused Short)) ≡ 0
+    → InUnit (floatAt (bufferAfter (cond enough answer (Refused Short)) out) (placeOf axis))
+with-room axis true answer out room says answered = buffer-in-unit axis answer out (room tt) says answered
+with-room axis false answer out room says answered = absurd (numbered Short answered)
+
+pub file-never-past-full-stroke : FileNeverPastFullStroke
+unfolding hostAnswer fileSetPoint
+file-never-past-full-stroke file s t out axis border corners done answered =
+    with-room axis (leb 32 (length out)) (checkedSetPoint millionth file (ofBits binary64 s) (ofBits binary64 t) (checkedFile file)) out
+    (leb→le 32 (length out))
+    (λ value is. checked-in-unit file axis (ofBits binary64 s) (ofBits binary64 t) border corners done (checkedFile file) (own-count file) value is)
+    answered

@@ -1,0 +1,5 @@
+pub mod Theorems
+pub mod CallsLaws
+pub mod EndsProof
+pub mod NumbersProof
+pub mod FullStrokeProof

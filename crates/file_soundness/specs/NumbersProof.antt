@@ -1,0 +1,80 @@
+-- The C call's numbers: each test of the file has its own, an evaluation is refused 3, 4 or 9, and a set-point 15.
+use Prim.Native.Nat.{ℕ}
+use mathlib.Core.Path.{_≡_, refl, subst, sym}
+use mathlib.Core.Bool.{Bool}
+use mathlib.Core.List.{List, [], _∷_}
+use mathlib.Core.Logic.{inl, inr}
+use lib.Dec.{leb, eqb}
+use lib.Ieee.{Float, binary64, ofBits}
+use lib.ListN.{length}
+use Rattle.big_endian.specs.BigEndian.{byteAt, floatAt}
+use Rattle.control_point.specs.Refusal.{refusalNumber}
+use Rattle.control_point.specs.Small.{millionth}
+use Rattle.control_point.specs.declared.refusal.Refusal.{Refusal}
+use Rattle.mirror.specs.BoolLaws.{cond-case}
+use Rattle.evaluation.specs.Evaluation.{evaluationNumber, weighty, setPoint, subsOf}
+use Rattle.evaluation.specs.declared.evaluation.Evaluation.{Evaluation}
+use Rattle.evaluation.specs.declared.evaluation.EvaluationAnswer.{EvaluationAnswer}
+use Rattle.evaluation.specs.declared.evaluation.EvaluationAnswer.the-variants.{Is, Refused as NoValue}
+use Rattle.calls.specs.Calls.{Call}
+use Rattle.t_mesh.specs.declared.t_mesh.Tmesh.{Tmesh}
+use Rattle.soundness.specs.Theorems.{OneOf, mapAfterAll}
+use Rattle.soundness.specs.EveryMapProof.{evaluation-refusals}
+use Rattle.map_file.specs.Format.{versionAt, theVersion, editsAt, editCount, editsFrom, lengthRight, headingsRight, checkedFile}
+use Rattle.map_file.specs.Run.{cornerOf, freshMap, afterEdits, fileMap, asSetPoint, setPointAt, checkedSetPoint, fileSetPoint}
+use Rattle.map_file.specs.declared.format.FileCheck.{FileCheck}
+use Rattle.map_file.specs.declared.format.FileCheck.the-variants.{Valid, Refused}
+use Rattle.gatemap_host.specs.SetPoint.{valueBytes, hostAnswer}
+use Rattle.file_soundness.specs.CallsLaws.{callsOf, edits-are-calls}
+use Rattle.file_soundness.specs.Theorems.{NumbersNamed}
+
+-- the numbers of the header
+abbrev Named : ℕ → Type 0
+Named n = OneOf n (0 ∷ (3 ∷ (4 ∷ (9 ∷ (12 ∷ (13 ∷ (14 ∷ (15 ∷ (16 ∷ [])))))))))
+
+abbrev NamedAnswer : EvaluationAnswer → Type 0
+NamedAnswer answer = Named (evaluationNumber answer)
+
+-- one of three is one of all
+of-three : (n : ℕ) → OneOf n (3 ∷ (4 ∷ (9 ∷ []))) → Named n
+of-three n (inl same) = inr (inl same)
+of-three n (inr (inl same)) = inr (inr (inl same))
+of-three n (inr (inr (inl same))) = inr (inr (inr (inl same)))
+
+set-point-named : (value : Evaluation) → NamedAnswer (setPoint value)
+unfolding setPoint
+set-point-named value = cond-case (weighty value) NamedAnswer _ _ (λ h. inl refl) (λ h. inr (inr (inr (inr (inr (inr (inr (inl refl))))))))
+
+answer-named : (answer : EvaluationAnswer) → ((refusal : Refusal) → answer ≡ NoValue refusal → OneOf (refusalNumber refusal) (3 ∷ (4 ∷ (9 ∷ [])))) → NamedAnswer (asSetPoint answer)
+answer-named (Is value) refused = set-point-named value
+answer-named (NoValue refusal) refused = of-three (refusalNumber refusal) (refused refusal refl)
+
+-- a file that is refused has one of its three numbers
+abbrev NamedCheck : FileCheck → Type 0
+NamedCheck (Valid count) = Unit {0}
+NamedCheck (Refused refusal) = Named (refusalNumber refusal)
+
+check-named : (file : List ℕ) → NamedCheck (checkedFile file)
+unfolding checkedFile
+check-named file =
+    cond-case (lengthRight file) NamedCheck _ _
+    (λ h.
+    cond-case (eqb (byteAt file versionAt) theVersion) NamedCheck _ _
+    (λ k. cond-case (headingsRight (editCount file) file editsAt) NamedCheck _ _ (λ l. tt) (λ l. inr (inr (inr (inr (inr (inr (inl refl))))))))
+    (λ k. inr (inr (inr (inr (inr (inl refl)))))))
+    (λ h. inr (inr (inr (inr (inl refl)))))
+
+file-named : (file : List ℕ) (s t : Float) (check : FileCheck) → NamedCheck check → NamedAnswer (checkedSetPoint millionth file s t check)
+file-named file s t (Valid count) named =
+    answer-named (subsOf millionth (fileMap millionth file count) s t .answer)
+    (λ refusal is.
+    evaluation-refusals millionth (floatAt file 5) (cornerOf file 0) (cornerOf file 1) (cornerOf file 2) (cornerOf file 3) (callsOf (editsFrom count file editsAt)) millionth s t refusal
+    (subst (λ (map : Tmesh). subsOf millionth map s t .answer ≡ NoValue refusal) (edits-are-calls millionth (freshMap file) (editsFrom count file editsAt)) is))
+file-named file s t (Refused refusal) named = named
+
+pub numbers-named : NumbersNamed
+unfolding hostAnswer fileSetPoint
+numbers-named file s t out =
+    cond-case (leb valueBytes (length out)) NamedAnswer _ _
+    (λ h. file-named file (ofBits binary64 s) (ofBits binary64 t) (checkedFile file) (check-named file))
+    (λ h. inr (inr (inr (inr (inr (inr (inr (inr (inl refl)))))))))

@@ -1,0 +1,68 @@
+-- Theorems on map files: statements only, with what they speak of. A file is any list of bytes. What the program prints of it is `reportOf`, and what a C host
+-- gets is `hostNumber` and `hostBuffer`: the definitions that the contracts of the code cite.
+use Prim.Native.Nat.{ℕ, _<_}
+use mathlib.Core.Path.{_≡_}
+use mathlib.Core.List.{List, [], _∷_, _++_}
+use lib.Dec.{T}
+use lib.Ieee.{le}
+use Rattle.float64.specs.Sign.{0f}
+use Rattle.big_endian.specs.BigEndian.{floatAt}
+use Rattle.control_point.specs.Small.{millionth}
+use Rattle.t_mesh.specs.Tmesh.{Axis, X, Y, Z, coordinate}
+use Rattle.calls.specs.FullStroke.{InUnit}
+use Rattle.soundness.specs.Theorems.{OneOf}
+use Rattle.map_file.specs.Format.{borderAt, editsAt, editCount, editsFrom, checkedFile}
+use Rattle.map_file.specs.Run.{cornerOf, fileNumbers}
+use Rattle.map_file.specs.declared.format.Edit.{Edit}
+use Rattle.map_file.specs.declared.format.FileCheck.the-variants.{Valid}
+use Rattle.report.specs.Report.{midLine, reportOf}
+use Rattle.gatemap_host.specs.SetPoint.{hostAnswer, hostNumber, hostBuffer}
+
+-- ---- one definition at both ends
+-- Files with equal bytes have equal reports, and equal answers and buffers at every place: nothing but the bytes decides.
+abbrev pub BytesDecide : Type 0
+BytesDecide =
+    (file same : List ℕ)
+    → file ≡ same
+    → (reportOf file ≡ reportOf same)
+    × ((s t : ℕ) (out : List ℕ) → (hostNumber file s t out ≡ hostNumber same s t out) × (hostBuffer file s t out ≡ hostBuffer same s t out))
+
+-- the bits of 0.5
+abbrev pub halfBits : ℕ
+halfBits = 0x3fe0_0000_0000_0000
+
+-- The last line that the program prints of a valid file is the C call's answer at (0.5, 0.5), where its buffer has room.
+abbrev pub EndsAgree : Type 0
+EndsAgree =
+    (file : List ℕ) (count : ℕ)
+    → checkedFile file ≡ Valid count
+    → (before : List ℕ) × (reportOf file ≡ before ++ midLine (hostAnswer file halfBits halfBits 32))
+
+-- ---- the numbers
+-- Whatever it is given, the C call returns 0 or one of the refusals 3, 4, 9 and 12 to 16.
+abbrev pub NumbersNamed : Type 0
+NumbersNamed = (file : List ℕ) (s t : ℕ) (out : List ℕ) → OneOf (hostNumber file s t out) (0 ∷ (3 ∷ (4 ∷ (9 ∷ (12 ∷ (13 ∷ (14 ∷ (15 ∷ (16 ∷ [])))))))))
+
+-- ---- NEVER PAST FULL STROKE, for files
+-- where a position's float on an axis stands in the buffer
+abbrev pub placeOf : Axis → ℕ
+placeOf X = 0
+placeOf Y = 8
+placeOf Z = 16
+
+-- the position of each edit that is answered 0, done, lies in 0 to 1 on an axis
+abbrev pub DoneInUnit : Axis → List Edit → List ℕ → Type 0
+DoneInUnit axis [] numbers = Unit {0}
+DoneInUnit axis (edit ∷ rest) [] = Unit {0}
+DoneInUnit axis (edit ∷ rest) (number ∷ numbers) = (number ≡ 0 → InUnit (coordinate axis (edit .position))) × DoneInUnit axis rest numbers
+
+-- Take any file, any s and t, any buffer and any axis. If the border weight is ≥ 0, the four corners lie in 0 to 1 on the axis, and so does the position of
+-- each edit that is done, then, where the call answers 0, the float that it wrote for the axis lies in 0 to 1, both ends included.
+abbrev pub FileNeverPastFullStroke : Type 0
+FileNeverPastFullStroke =
+    (file : List ℕ) (s t : ℕ) (out : List ℕ) (axis : Axis)
+    → T (le 0f (floatAt file borderAt))
+    → ((k : ℕ) → k < 4 → InUnit (coordinate axis (cornerOf file k)))
+    → DoneInUnit axis (editsFrom (editCount file) file editsAt) (fileNumbers millionth file (editCount file))
+    → hostNumber file s t out ≡ 0
+    → InUnit (floatAt (hostBuffer file s t out) (placeOf axis))

@@ -1,0 +1,1 @@
+// Theorems on map files: definitions, statements and proofs in specs/, and no function.

@@ -1,0 +1,44 @@
+-- The call of a C host (`gatemap_set_point`): the file, s and t as bits, and a buffer. Refusals in order: a buffer under 32 bytes 16, the file 12, 13, 14, the evaluation 3, 4, 9, no weight 15.
+-- With a value the answer is 0, and the first 32 bytes of the buffer receive position and weight, big-endian, a NaN as 7ff8000000000000; the rest of it, and refused all
+-- of it, is untouched.
+use Prim.Native.Nat.{ℕ}
+use mathlib.Core.Bool.{cond}
+use mathlib.Core.List.{List, _++_}
+use lib.Dec.{leb}
+use lib.Ieee.{Float, binary64, ofBits, toBits}
+use lib.ListN.{length}
+use Rattle.big_endian.specs.Written.{written, bytesOf}
+use Rattle.control_point.specs.Small.{millionth}
+use Rattle.control_point.specs.declared.refusal.Refusal.the-variants.{Short}
+use Rattle.evaluation.specs.Evaluation.{evaluationNumber}
+use Rattle.evaluation.specs.declared.evaluation.Evaluation.{Evaluation}
+use Rattle.evaluation.specs.declared.evaluation.EvaluationAnswer.{EvaluationAnswer}
+use Rattle.evaluation.specs.declared.evaluation.EvaluationAnswer.the-variants.{Is, Refused}
+use Rattle.map_file.specs.Run.{fileSetPoint}
+
+-- a position and its weight, as they are written
+abbrev pub valueBytes : ℕ
+valueBytes = 32
+
+abbrev pub bitsOf : Float → List ℕ
+bitsOf x = bytesOf 8 (toBits binary64 x)
+
+abbrev pub bytesOfValue : Evaluation → List ℕ
+bytesOfValue value = bitsOf (value .x) ++ (bitsOf (value .y) ++ (bitsOf (value .z) ++ bitsOf (value .weight)))
+
+-- what the call finds, in a buffer of a length
+unfoldable pub hostAnswer : List ℕ → ℕ → ℕ → ℕ → EvaluationAnswer
+hostAnswer file s t room =
+    cond (leb valueBytes room) (fileSetPoint millionth file (ofBits binary64 s) (ofBits binary64 t)) (Refused Short)
+
+-- the buffer after it
+abbrev pub bufferAfter : EvaluationAnswer → List ℕ → List ℕ
+bufferAfter (Is value) out = written out 0 (bytesOfValue value)
+bufferAfter (Refused refusal) out = out
+
+-- the number that it returns, and the buffer that it leaves
+abbrev pub hostNumber : List ℕ → ℕ → ℕ → List ℕ → ℕ
+hostNumber file s t out = evaluationNumber (hostAnswer file s t (length out))
+
+abbrev pub hostBuffer : List ℕ → ℕ → ℕ → List ℕ → List ℕ
+hostBuffer file s t out = bufferAfter (hostAnswer file s t (length out)) out

@@ -1,0 +1,57 @@
+-- `file_set_point` meets its contract: it is the set-point of the map that the run leaves, or the check's refusal.
+use borrow.Author.Needs.{needs}
+use mathlib.Core.Path.{_∙_, sym, ap}
+use Rattle.control_point.specs.Small.{millionth}
+use Rattle.t_mesh.specs.declared.t_mesh.Tmesh.{Tmesh}
+use Rattle.map_file.specs.Run.{setPointAt}
+use Rattle.map_file.specs.RunLaws.{set-point-valid, set-point-refused}
+use Rattle.map_file.proofs.run.file_set_point.Statement.{statement}
+use Rattle.map_file.proofs.run.file_set_point.Tie as tie
+
+validate-requires : tie.Need-validate-requires
+validate-requires c κs = search needs
+
+enum-known-check : tie.Need-enum-known-check
+enum-known-check c = search needs
+
+slice-aggregate-run-edits : tie.Need-slice-aggregate-run-edits
+slice-aggregate-run-edits c = search needs
+
+run-edits-requires : tie.Need-run-edits-requires
+run-edits-requires c κs = search needs
+
+set-point-at-requires : tie.Need-set-point-at-requires
+set-point-at-requires c κs = search needs
+
+enum-known-check-2 : tie.Need-enum-known-check-2
+enum-known-check-2 c = search needs
+
+returns : tie.Need-returns
+returns c =
+    let run = c .before .before in
+    let known = run .before .before .before in
+    let check = known .before .before in
+    let a = check .before .before .args in
+    c .set-point-at .ensures
+    ∙ ap (λ (map : Tmesh). setPointAt millionth map (a .s) (a .t)) (run .run-edits .ensures .0)
+    ∙ set-point-valid millionth (a .file .now) (a .s) (a .t) _ (sym (check .validate .ensures) ∙ known .check .given .1)
+
+returns-2 : tie.Need-returns-2
+returns-2 c =
+    let known = c .before in
+    let check = known .before .before in
+    let a = check .before .before .args in
+    set-point-refused millionth (a .file .now) (a .s) (a .t) _ (sym (check .validate .ensures) ∙ known .check2 .given .1)
+
+pub file-set-point-spec : {M : Type 1} → statement M
+file-set-point-spec =
+    tie.close
+    (tie.spec
+    validate-requires
+    enum-known-check
+    slice-aggregate-run-edits
+    run-edits-requires
+    set-point-at-requires
+    enum-known-check-2
+    returns
+    returns-2)

@@ -1,0 +1,19 @@
+-- `set_point_at` meets its contract: it is the set-point of what `subs` answers.
+use borrow.Author.Needs.{needs}
+use mathlib.Core.Path.{_∙_, ap}
+use Rattle.evaluation.specs.declared.evaluation.Evaluated.{Evaluated}
+use Rattle.map_file.specs.Run.{asSetPoint}
+use Rattle.map_file.proofs.run.set_point_at.Statement.{statement}
+use Rattle.map_file.proofs.run.set_point_at.Tie as tie
+
+subs-requires : tie.Need-subs-requires
+subs-requires c κs = search needs
+
+as-set-point-requires : tie.Need-as-set-point-requires
+as-set-point-requires c κs = search needs
+
+returns : tie.Need-returns
+returns c = c .as-set-point .ensures ∙ ap (λ (evaluated : Evaluated). asSetPoint (evaluated .answer)) (c .before .subs .ensures)
+
+pub set-point-at-spec : {M : Type 1} → statement M
+set-point-at-spec = tie.close (tie.spec subs-requires as-set-point-requires returns)

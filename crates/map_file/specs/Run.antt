@@ -1,0 +1,65 @@
+-- The run of a valid file: the map of its border and corners, and its edits in order, each given the map as the last left it; a refused one is passed over.
+-- e is the closeness. What is answered at (s, t) is the set-point of an evaluation of the map that the run leaves.
+use Prim.Native.Nat.{ℕ, _+_, _*_}
+use mathlib.Core.List.{List, [], _∷_}
+use lib.Ieee.{Float}
+use Rattle.big_endian.specs.BigEndian.{floatAt}
+use Rattle.control_point.specs.declared.refusal.Refusal.{Refusal}
+use Rattle.insertion.specs.Insert.{answerNumber}
+use Rattle.t_mesh.specs.Tmesh.{newTmesh}
+use Rattle.t_mesh.specs.Insertion.{addControlPoint}
+use Rattle.t_mesh.specs.declared.t_mesh.Position.{Position}
+use Rattle.t_mesh.specs.declared.t_mesh.Tmesh.{Tmesh}
+use Rattle.t_mesh.specs.declared.add.Added.{Added}
+use Rattle.evaluation.specs.Evaluation.{subsOf, setPoint}
+use Rattle.evaluation.specs.declared.evaluation.EvaluationAnswer.{EvaluationAnswer}
+use Rattle.evaluation.specs.declared.evaluation.EvaluationAnswer.the-variants.{Is, Refused as NotEvaluated}
+use Rattle.map_file.specs.Format.{borderAt, cornersAt, positionBytes, editsAt, positionAt, editsFrom, checkedFile}
+use Rattle.map_file.specs.declared.format.Edit.{Edit}
+use Rattle.map_file.specs.declared.format.FileCheck.{FileCheck}
+use Rattle.map_file.specs.declared.format.FileCheck.the-variants.{Valid, Refused}
+
+-- ---- the map before the edits
+abbrev pub cornerOf : List ℕ → ℕ → Position
+cornerOf bytes k = positionAt bytes (cornersAt + k * positionBytes)
+
+abbrev pub freshMap : List ℕ → Tmesh
+freshMap bytes = newTmesh (floatAt bytes borderAt) (cornerOf bytes 0) (cornerOf bytes 1) (cornerOf bytes 2) (cornerOf bytes 3)
+
+-- ---- the edits
+abbrev pub edited : Float → Tmesh → Edit → Added
+edited e map edit = addControlPoint e map (edit .point) (edit .direction) (edit .ratio) (edit .position)
+
+-- the map after all
+unfoldable pub afterEdits : Float → Tmesh → List Edit → Tmesh
+afterEdits e map [] = map
+afterEdits e map (edit ∷ rest) = afterEdits e (edited e map edit .map) rest
+
+-- their answer numbers, in order: 0 done, 8 torn, or the refusal's
+unfoldable pub editNumbers : Float → Tmesh → List Edit → List ℕ
+editNumbers e map [] = []
+editNumbers e map (edit ∷ rest) = answerNumber (edited e map edit .answer) ∷ editNumbers e (edited e map edit .map) rest
+
+-- ---- a file with so many edits
+abbrev pub fileMap : Float → List ℕ → ℕ → Tmesh
+fileMap e bytes count = afterEdits e (freshMap bytes) (editsFrom count bytes editsAt)
+
+abbrev pub fileNumbers : Float → List ℕ → ℕ → List ℕ
+fileNumbers e bytes count = editNumbers e (freshMap bytes) (editsFrom count bytes editsAt)
+
+-- ---- the set-point at (s, t)
+abbrev pub asSetPoint : EvaluationAnswer → EvaluationAnswer
+asSetPoint (Is value) = setPoint value
+asSetPoint (NotEvaluated refusal) = NotEvaluated refusal
+
+-- of a map
+abbrev pub setPointAt : Float → Tmesh → Float → Float → EvaluationAnswer
+setPointAt e map s t = asSetPoint (subsOf e map s t .answer)
+
+-- of a file: a refused one runs nothing
+abbrev pub checkedSetPoint : Float → List ℕ → Float → Float → FileCheck → EvaluationAnswer
+checkedSetPoint e bytes s t (Valid count) = setPointAt e (fileMap e bytes count) s t
+checkedSetPoint e bytes s t (Refused refusal) = NotEvaluated refusal
+
+unfoldable pub fileSetPoint : Float → List ℕ → Float → Float → EvaluationAnswer
+fileSetPoint e bytes s t = checkedSetPoint e bytes s t (checkedFile bytes)

@@ -1,0 +1,117 @@
+// The run of a file: the map of its border and corners, and its edits in order.
+ghost use mathlib.Core.Path.{_≡_};
+ghost use Prim.Native.Nat.{_+_};
+ghost use Rattle.big_endian.specs.Written.{written};
+ghost use Rattle.control_point.specs.Small.{millionth};
+ghost use Rattle.map_file.specs.Format.{editBytes};
+ghost use Rattle.map_file.specs.Run.{freshMap, fileMap, fileNumbers, asSetPoint, setPointAt, fileSetPoint};
+ghost use Rattle.map_file.specs.RunLaws.{SameEdits, meshEdited};
+use crate::format::BORDER_AT;
+use crate::format::CORNERS_AT;
+use crate::format::EDIT_BYTES;
+use crate::format::EDITS_AT;
+use crate::format::Edit;
+use crate::format::FileCheck;
+use crate::format::POSITION_BYTES;
+use crate::format::position_at;
+use crate::format::validate;
+use crate::reader::edit_from;
+use big_endian::float_at;
+use big_endian::put_byte;
+use control_point::small::closeness;
+use evaluation::evaluation::EvaluationAnswer;
+use evaluation::evaluation::set_point;
+use evaluation::evaluation::subs;
+use t_mesh::add::InsertedMesh;
+use t_mesh::add::insert_into;
+use t_mesh::t_mesh::Mesh;
+use t_mesh::t_mesh::Tmesh;
+
+// The map before the edits, its corners anticlockwise from bottom left.
+pub fn fresh_map(file: &[u8]) -> Tmesh
+    ensures { λ r. ⌜ r ≡ freshMap (now (file .entry)) ⌝ }
+{
+    Tmesh::new(
+        float_at(file, BORDER_AT),
+        position_at(file, CORNERS_AT),
+        position_at(file, CORNERS_AT + POSITION_BYTES),
+        position_at(file, CORNERS_AT + 2 * POSITION_BYTES),
+        position_at(file, CORNERS_AT + 3 * POSITION_BYTES),
+    )
+}
+
+// An edit of the mesh alone, so that the map's knots, which are large, are not passed.
+fn edit_mesh(mesh: Mesh, edit: Edit) -> InsertedMesh
+    ensures { λ r. ⌜ r ≡ meshEdited millionth mesh «edit» ⌝ }
+{
+    let direction = edit.direction;
+    insert_into(
+        closeness(),
+        mesh,
+        edit.point,
+        direction,
+        edit.ratio,
+        edit.position,
+    )
+}
+
+// Where the next edit is read. Past the file's end every edit reads the same.
+fn next_place(file: &[u8], at: usize) -> usize
+    ensures { λ r. ⌜ SameEdits (now (file .entry)) r (at + editBytes) ⌝ }
+{
+    if at < file.len() { at + EDIT_BYTES } else { at }
+}
+
+// The map after so many edits of the file; the answer number of each is noted, as far as there is room. No knots are kept from the
+// start, so an edit changes nothing but the mesh.
+pub fn run_edits(file: &[u8], count: usize, notes: &mut [u8]) -> Tmesh
+    ensures map { λ r. ⌜ r ≡ fileMap millionth (now (file .entry)) count ⌝ }
+    ensures notes { λ _. ⌜ now (notes .exit) ≡ written (now (notes .entry)) 0 (fileNumbers millionth (now (file .entry)) count) ⌝ }
+{
+    let mut map = fresh_map(file);
+    let mut at = EDITS_AT;
+    let mut n: usize = 0;
+    while n < count {
+        let edited = edit_mesh(map.mesh, edit_from(file, at));
+        let answer = edited.answer;
+        put_byte(notes, n, answer.number());
+        let after = edited.mesh;
+        map.mesh = after;
+        at = next_place(file, at);
+        n += 1;
+    }
+    map
+}
+
+// An evaluation's answer as a set-point.
+fn as_set_point(answer: EvaluationAnswer) -> EvaluationAnswer
+    ensures { λ r. ⌜ r ≡ asSetPoint answer ⌝ }
+{
+    match answer {
+        EvaluationAnswer::Is(value) => set_point(value),
+        EvaluationAnswer::Refused(refusal) => EvaluationAnswer::Refused(refusal),
+    }
+}
+
+// The set-point of a map at (s, t).
+pub fn set_point_at(map: Tmesh, s: f64, t: f64) -> EvaluationAnswer
+    ensures { λ r. ⌜ r ≡ setPointAt millionth map s t ⌝ }
+{
+    let evaluated = subs(map, s, t);
+    let answer = evaluated.answer;
+    as_set_point(answer)
+}
+
+// The set-point of a file at (s, t), with no room for notes; a refused file runs nothing.
+pub fn file_set_point(file: &[u8], s: f64, t: f64) -> EvaluationAnswer
+    ensures { λ r. ⌜ r ≡ fileSetPoint millionth (now (file .entry)) s t ⌝ }
+{
+    let check = validate(file);
+    match check {
+        FileCheck::Valid(count) => {
+            let mut notes = [0u8; 0];
+            set_point_at(run_edits(file, count, &mut notes), s, t)
+        }
+        FileCheck::Refused(refusal) => EvaluationAnswer::Refused(refusal),
+    }
+}

@@ -1,0 +1,4 @@
+pub mod PutLaws
+pub mod TextLaws
+pub mod LinesLaws
+pub mod ReportLaws

@@ -1,0 +1,6 @@
+pub mod Text
+pub mod Put
+pub mod Report
+pub mod Theorems
+pub mod LengthLaws
+pub mod ReportFitsProof

@@ -1,0 +1,39 @@
+-- `ReportFits` holds: 1,000 lines of edits, 512 of openings and the two others come to fewer bytes.
+use Prim.Native.Nat.{ℕ, _≤_}
+use mathlib.Core.Path.{_≡_, refl}
+use mathlib.Core.List.{List, _++_}
+use native.Mathlib.Omega.{arith}
+use lib.ListN.{length, length-append}
+use Rattle.control_point.specs.Refusal.{refusalNumber}
+use Rattle.control_point.specs.Small.{millionth}
+use Rattle.t_mesh.specs.Tmesh.{storeOf}
+use Rattle.t_mesh.specs.declared.t_mesh.Tmesh.{Tmesh}
+use Rattle.census.specs.Census.{countsOf}
+use Rattle.map_file.specs.Format.{checkedFile}
+use Rattle.map_file.specs.FormatLaws.{valid-tells}
+use Rattle.map_file.specs.Run.{fileMap, fileNumbers, setPointAt}
+use Rattle.map_file.specs.declared.format.FileCheck.{FileCheck}
+use Rattle.map_file.specs.declared.format.FileCheck.the-variants.{Valid, Refused}
+use Rattle.report.specs.Put.{mostBytes}
+use Rattle.report.specs.Text.{newline, refusedText}
+use Rattle.report.specs.Report.{countsLine, editLines, openLines, midLine, half, mapReport, checkedReport, reportOf}
+use Rattle.report.specs.LengthLaws.{edit-lines-few, counts-line-few, open-lines-few, mid-line-few, refused-few, file-numbers-length}
+use Rattle.report.specs.Theorems.{ReportFits}
+
+map-report-few : (map : Tmesh) → length (mapReport map) ≤ 7785
+map-report-few map =
+    let counts = countsLine (countsOf map) in
+    let openings = openLines (storeOf map) 512 in
+    let mid = midLine (setPointAt millionth map half half) in
+    omega (arith, length-append counts (openings ++ mid), length-append openings mid, counts-line-few (countsOf map), open-lines-few (storeOf map) 512, mid-line-few (setPointAt millionth map half half))
+
+checked-fits : (file : List ℕ) (check : FileCheck) → checkedFile file ≡ check → length (checkedReport file check) ≤ mostBytes
+checked-fits file (Refused refusal) so = omega (arith, length-append (refusedText (refusalNumber refusal)) newline, refused-few (refusalNumber refusal))
+checked-fits file (Valid count) so =
+    let numbers = fileNumbers millionth file count in
+    let map = fileMap millionth file count in
+    omega (arith, length-append (editLines 1 numbers) (mapReport map), edit-lines-few 1 numbers, file-numbers-length millionth file count, valid-tells file count so .1, map-report-few map)
+
+pub report-fits : ReportFits
+unfolding reportOf
+report-fits file = checked-fits file (checkedFile file) refl

@@ -1,0 +1,179 @@
+//! A second reading of the map file, of what the program prints of it and of what the C call answers, written from the paper that
+//! describes them. The map itself is run on both sides, as everywhere in the comparison.
+use crate::bytes::bits_of;
+use crate::map_calls::{MapAnswer, MapCall, Maps};
+use crate::reading::{DOWN, LEFT, RIGHT, Refused, Side, UP, Value, opposite};
+
+pub const LENGTH: u8 = 12;
+pub const VERSION: u8 = 13;
+pub const HEADING: u8 = 14;
+pub const NO_WEIGHT: u8 = 15;
+pub const SHORT: u8 = 16;
+
+/// The bytes of the count, those after it without edits, those of an edit, and how many edits there may be.
+pub const COUNT_BYTES: usize = 4;
+pub const HEAD_BYTES: usize = 105;
+pub const EDIT_BYTES: usize = 34;
+pub const MOST_EDITS: usize = 1000;
+
+/// What the C call writes: a position and its weight.
+pub const VALUE_BYTES: usize = 32;
+
+#[derive(Clone, Copy, Debug)]
+pub struct Edit {
+    pub point: u8,
+    pub direction: u8,
+    pub ratio: f64,
+    pub position: [f64; 3],
+}
+
+pub struct MapFile {
+    pub border: f64,
+    pub corners: [[f64; 3]; 4],
+    pub edits: Vec<Edit>,
+}
+
+/// Bytes that are taken from the front. There are enough: the count was checked.
+struct Front<'a>(&'a [u8]);
+
+impl Front<'_> {
+    fn take<const N: usize>(&mut self) -> [u8; N] {
+        let (taken, rest) = self.0.split_first_chunk::<N>().expect("the count was checked");
+        self.0 = rest;
+        *taken
+    }
+    fn byte(&mut self) -> u8 {
+        self.take::<1>()[0]
+    }
+    fn float(&mut self) -> f64 {
+        f64::from_bits(u64::from_be_bytes(self.take()))
+    }
+    fn position(&mut self) -> [f64; 3] {
+        std::array::from_fn(|_| self.float())
+    }
+    fn edit(&mut self) -> Edit {
+        Edit { point: self.byte(), direction: self.byte(), ratio: self.float(), position: self.position() }
+    }
+}
+
+/// The number of edits, where the count is that of the bytes that follow it and leaves room for whole edits.
+fn edits_counted(file: &[u8]) -> Option<usize> {
+    let (count, rest) = file.split_first_chunk::<COUNT_BYTES>()?;
+    let count = u32::from_be_bytes(*count) as usize;
+    let of_edits = count.checked_sub(HEAD_BYTES)?;
+    let whole = count == rest.len() && of_edits % EDIT_BYTES == 0 && of_edits / EDIT_BYTES <= MOST_EDITS;
+    whole.then_some(of_edits / EDIT_BYTES)
+}
+
+/// What a file says, or its refusal: the length, then the version, then the directions.
+pub fn read(file: &[u8]) -> Refused<MapFile> {
+    let count = edits_counted(file).ok_or(LENGTH)?;
+    let mut front = Front(&file[COUNT_BYTES..]);
+    if front.byte() != 1 {
+        return Err(VERSION);
+    }
+    let border = front.float();
+    let corners = std::array::from_fn(|_| front.position());
+    let edits: Vec<Edit> = (0..count).map(|_| front.edit()).collect();
+    if edits.iter().any(|edit| edit.direction > 3) {
+        return Err(HEADING);
+    }
+    Ok(MapFile { border, corners, edits })
+}
+
+/// The bytes of a file whose count is right.
+pub fn bytes_of(file: &MapFile) -> Vec<u8> {
+    let mut out = ((HEAD_BYTES + file.edits.len() * EDIT_BYTES) as u32).to_be_bytes().to_vec();
+    let put = |out: &mut Vec<u8>, x: f64| out.extend(x.to_bits().to_be_bytes());
+    out.push(1);
+    put(&mut out, file.border);
+    file.corners.iter().flatten().for_each(|x| put(&mut out, *x));
+    for edit in &file.edits {
+        out.extend([edit.point, edit.direction]);
+        put(&mut out, edit.ratio);
+        edit.position.iter().for_each(|x| put(&mut out, *x));
+    }
+    out
+}
+
+/// A file that was run: both maps after its edits, and what each edit answered.
+pub struct Run {
+    pub maps: Maps,
+    pub answers: Vec<MapAnswer>,
+}
+
+pub fn run(file: &MapFile) -> Run {
+    let mut maps = Maps::new(file.corners, file.border);
+    let insert = |edit: &Edit| {
+        let Edit { point, direction, ratio, position } = *edit;
+        maps.make(MapCall::Insert { con: point, direction: direction as usize, ratio, position })
+    };
+    let answers = file.edits.iter().map(insert).collect();
+    maps.assert_same();
+    Run { maps, answers }
+}
+
+impl Run {
+    /// The set-point: the value of an evaluation whose weight is positive and finite.
+    pub fn set_point(&mut self, s: f64, t: f64) -> Refused<Value> {
+        let MapAnswer::Evaluated(answer) = self.maps.make(MapCall::Evaluate { s, t }) else { unreachable!() };
+        let value = answer?;
+        if value.weight > 0.0 && value.weight < f64::INFINITY { Ok(value) } else { Err(NO_WEIGHT) }
+    }
+
+    /// The links that lead back: each is counted at one of its ends.
+    fn links(&self) -> usize {
+        let points = &self.maps.reading.store.points;
+        let leads_back = |n: usize, d: usize| {
+            let Side::Link(other, _) = points[n].sides[d] else { return false };
+            matches!(points[other as usize].sides[opposite(d)], Side::Link(back, _) if back as usize == n)
+        };
+        (0..points.len()).flat_map(|n| [(n, UP), (n, RIGHT)]).filter(|&(n, d)| leads_back(n, d)).count()
+    }
+
+    fn openings(&self) -> Vec<(usize, usize)> {
+        let points = &self.maps.reading.store.points;
+        let sides = (0..points.len()).flat_map(|n| [UP, RIGHT, DOWN, LEFT].map(|d| (n, d)));
+        sides.filter(|&(n, d)| points[n].sides[d].is_opening()).collect()
+    }
+}
+
+/// The bits of a value, position and weight.
+pub fn bits(value: &Value) -> [u64; 4] {
+    let [x, y, z] = value.position;
+    [x, y, z, value.weight].map(bits_of)
+}
+
+/// All that the program prints of a file. The order of openings is the port's: by point, then by direction.
+pub fn text(file: &[u8]) -> String {
+    let mut run = match read(file) {
+        Ok(file) => run(&file),
+        Err(number) => return format!("file refused {number}\n"),
+    };
+    let mut text = String::new();
+    for (k, answer) in run.answers.iter().enumerate() {
+        if answer.number() != 0 {
+            text += &format!("edit {} refused {}\n", k + 1, answer.number());
+        }
+    }
+    text += &format!("made {} listed {} links {}\n", run.maps.made(), run.maps.reading.listed.len(), run.links());
+    for (point, direction) in run.openings() {
+        text += &format!("open {point} {direction}\n");
+    }
+    text + &match run.set_point(0.5, 0.5) {
+        Ok(value) => {
+            let [x, y, z, weight] = bits(&value);
+            format!("mid {x:016x} {y:016x} {z:016x} {weight:016x}\n")
+        }
+        Err(number) => format!("mid refused {number}\n"),
+    }
+}
+
+/// What the C call answers: 16 before all else, then the file's refusal, then the evaluation's.
+pub fn host_answer(file: &[u8], s: u64, t: u64, room: usize) -> Refused<[u64; 4]> {
+    if room < VALUE_BYTES {
+        return Err(SHORT);
+    }
+    let mut run = run(&read(file)?);
+    run.set_point(f64::from_bits(s), f64::from_bits(t)).map(|value| bits(&value))
+}
