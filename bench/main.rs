@@ -1,33 +1,56 @@
 //! Times the proved library against the published Rust, on the same maps, in one run: README.md says how.
-#[allow(dead_code)]
-#[path = "../oracle/src/original.rs"]
-mod original;
-#[allow(dead_code)]
 #[path = "../oracle/src/random.rs"]
-mod random;
 #[allow(dead_code)]
+mod random;
 #[path = "../oracle/src/reading.rs"]
+#[allow(dead_code)]
 mod reading;
 
+/// The published Rust, its locks the standard library's and plain cells: the same driver over both.
+macro_rules! published_side {
+    ($name:ident, $library:ident) => {
+        #[allow(dead_code)]
+        mod $name {
+            use $library as published;
+            include!(concat!(env!("TMESH_DECLARED"), "/original.rs"));
+            include!("rust_side.rs");
+        }
+    };
+}
+
+published_side!(locks, published_locks);
+published_side!(cells, published_cells);
+
+use random::Random;
 use std::hint::black_box;
 use std::time::Instant;
 
 type Host = unsafe extern "C" fn(*const u8, usize, u64) -> u64;
+type Rust = fn(&[Edit], u64) -> u64;
 
 unsafe extern "C" {
     fn bench_insertions(edits: *const u8, length: usize, repeats: u64) -> u64;
+    fn bench_map_insertions(edits: *const u8, length: usize, repeats: u64) -> u64;
     fn bench_knots(edits: *const u8, length: usize, repeats: u64) -> u64;
     fn bench_evaluations(edits: *const u8, length: usize, repeats: u64) -> u64;
+    fn bench_rays(edits: *const u8, length: usize, repeats: u64) -> u64;
     fn bench_walks(edits: *const u8, length: usize, repeats: u64) -> u64;
     fn bench_lent_walks(edits: *const u8, length: usize, repeats: u64) -> u64;
+    fn bench_bases(edits: *const u8, length: usize, repeats: u64) -> u64;
+    fn bench_files(file: *const u8, length: usize, repeats: u64) -> u64;
 }
 
-struct Edit {
+pub struct Edit {
     point: u8,
     direction: u8,
     ratio: f64,
     position: [f64; 3],
 }
+
+const CORNERS: [[f64; 3]; 4] = [[0.0, 0.0, 0.0], [1.0, 0.0, 0.0], [1.0, 1.0, 1.0], [0.0, 1.0, 1.0]];
+const BORDER: f64 = 1.0;
+const MOST_POINTS: usize = 128;
+const FILE_EDITS: usize = 1000;
 
 /// The edits as the host reads them.
 fn bytes(edits: &[Edit]) -> Vec<u8> {
@@ -41,35 +64,54 @@ fn bytes(edits: &[Edit]) -> Vec<u8> {
     out
 }
 
-fn fresh() -> original::Map {
-    original::Map::new([[0.0, 0.0, 0.0], [1.0, 0.0, 0.0], [1.0, 1.0, 1.0], [0.0, 1.0, 1.0]], 1.0)
+/// The map file with these edits.
+fn map_file(edits: &[Edit]) -> Vec<u8> {
+    let mut body = vec![1];
+    for float in [BORDER].iter().chain(CORNERS.iter().flatten()) {
+        body.extend(float.to_bits().to_be_bytes());
+    }
+    body.extend(bytes(edits));
+    [&(body.len() as u32).to_be_bytes()[..], &body].concat()
 }
 
-fn map_of(edits: &[Edit]) -> original::Map {
-    let mut map = fresh();
-    for edit in edits {
-        map.add_control_point(edit.position, edit.point, edit.direction as usize, edit.ratio);
+fn any_edit(random: &mut Random, made: usize) -> Edit {
+    Edit {
+        point: random.below(made) as u8,
+        direction: random.below(4) as u8,
+        ratio: random.of(&[0.25, 0.5, 0.75]),
+        position: [random.unit(), random.unit(), random.unit()],
     }
-    map
+}
+
+/// An edit that is done, or one that is refused, and the map after it.
+fn edit_that_is(random: &mut Random, map: &mut reading::Map, done: bool) -> Edit {
+    loop {
+        let edit = any_edit(random, map.store.made());
+        let mut tried = map.clone();
+        match tried.add_control_point(edit.position, edit.point, edit.direction as usize, edit.ratio) {
+            reading::Insertion::Done(_) if done => {
+                *map = tried;
+                return edit;
+            }
+            reading::Insertion::Refused(_) if !done => return edit,
+            _ => {}
+        }
+    }
 }
 
 /// Edits that are all done, drawn from a seed, until so many points are made.
 fn drawn(points: usize) -> Vec<Edit> {
-    let mut random = random::Random::new(20030727);
-    let mut map = reading::Map::new([[0.0, 0.0, 0.0], [1.0, 0.0, 0.0], [1.0, 1.0, 1.0], [0.0, 1.0, 1.0]], 1.0);
-    let mut edits = Vec::new();
-    while edits.len() + 4 < points {
-        let point = random.below(edits.len() + 4) as u8;
-        let direction = random.below(4) as u8;
-        let ratio = random.of(&[0.25, 0.5, 0.75]);
-        let position = [random.unit(), random.unit(), random.unit()];
-        let mut tried = map.clone();
-        if matches!(tried.add_control_point(position, point, direction as usize, ratio), reading::Insertion::Done(_)) {
-            map = tried;
-            edits.push(Edit { point, direction, ratio, position });
-        }
-    }
-    edits
+    let mut random = Random::new(20030727);
+    let mut map = reading::Map::new(CORNERS, BORDER);
+    (4..points).map(|_| edit_that_is(&mut random, &mut map, true)).collect()
+}
+
+/// The edits of a file that fills the store: done ones, evenly among refused ones.
+fn filling() -> Vec<Edit> {
+    let mut random = Random::new(20030727);
+    let mut map = reading::Map::new(CORNERS, BORDER);
+    let done_by = |place: usize| place * (MOST_POINTS - 4) / FILE_EDITS;
+    (0..FILE_EDITS).map(|place| edit_that_is(&mut random, &mut map, done_by(place) < done_by(place + 1))).collect()
 }
 
 /// Edits along the bottom edge, so that a walk Right from corner 0 makes so many moves.
@@ -78,8 +120,8 @@ fn row(moves: usize) -> Vec<Edit> {
 }
 
 /// The time of one turn, in nanoseconds: the slope between few turns and many, so that what is done once drops out.
-fn slope(mut run: impl FnMut(u64) -> u64, turns: u64) -> f64 {
-    let mut timed = |repeats| {
+fn slope(run: impl Fn(u64) -> u64, turns: u64) -> f64 {
+    let timed = |repeats| {
         let start = Instant::now();
         black_box(run(black_box(repeats)));
         start.elapsed().as_nanos() as f64
@@ -93,47 +135,40 @@ fn median(mut times: Vec<f64>) -> f64 {
     times[times.len() / 2]
 }
 
-/// One line of the table: both sides in turn, several times over.
-fn line(name: &str, per_turn: f64, turns: u64, edits: &[Edit], host: Host, rust: impl Fn(u64) -> u64) {
-    let file = bytes(edits);
-    let (mut ours, mut theirs) = (Vec::new(), Vec::new());
+/// One line of the table: all sides in turn, several times over.
+fn line(name: &str, per_turn: f64, turns: u64, edits: &[Edit], file: &[u8], host: Host, locks: Rust, cells: Rust) {
+    let (mut ours, mut theirs, mut plain) = (Vec::new(), Vec::new(), Vec::new());
     for _ in 0..7 {
         ours.push(slope(|repeats| unsafe { host(file.as_ptr(), file.len(), repeats) }, turns) / per_turn);
-        theirs.push(slope(&rust, turns) / per_turn);
+        theirs.push(slope(|repeats| locks(edits, repeats), turns) / per_turn);
+        plain.push(slope(|repeats| cells(edits, repeats), turns) / per_turn);
     }
-    let (ours, theirs) = (median(ours), median(theirs));
-    println!("{name:44} {ours:10.1} {theirs:10.1} {:8.2}", ours / theirs);
+    let (ours, theirs, plain) = (median(ours), median(theirs), median(plain));
+    println!("{name:48} {ours:10.1} {theirs:10.1} {plain:10.1} {:8.2} {:8.2}", ours / theirs, ours / plain);
 }
 
 fn main() {
-    println!("{:44} {:>10} {:>10} {:>8}", "work", "here, ns", "Rust, ns", "ratio");
-    for points in [16, 64, 128] {
+    println!("{:48} {:>10} {:>10} {:>10} {:>8} {:>8}", "work", "here, ns", "Rust, ns", "cells, ns", "ratio", "to cells");
+    for points in [4, 16, 64, MOST_POINTS] {
         let edits = drawn(points);
-        line(&format!("one insertion done, on the way to {points} points"), edits.len() as f64, 400, &edits, bench_insertions, |repeats| {
-            (0..repeats).map(|_| map_of(&edits).store.points.len() as u64).sum()
-        });
-        line(&format!("all knots built anew, {points} points"), 1.0, 400, &edits, bench_knots, |repeats| {
-            let map = map_of(&edits);
-            (0..repeats).map(|_| (0..points).filter(|&n| black_box(map.store.point_knot_vectors(n as u8)).is_ok()).count() as u64).sum()
-        });
-        line(&format!("evaluation with knots kept, {points} points"), 1.0, 20000, &edits, bench_evaluations, |repeats| {
-            let map = map_of(&edits);
-            let (mut s, mut sum) = (0.25, 0.0);
-            for _ in 0..repeats {
-                let z = map.subs(s, 0.5).map_or(2.0, |position| position[2]);
-                sum += z;
-                s = 0.25 + z * 0.0625;
-            }
-            sum.to_bits()
-        });
+        let file = bytes(&edits);
+        if points > 4 {
+            let count = edits.len() as f64;
+            let turns = 20000 / points as u64;
+            line(&format!("insertion done, mesh by value, up to {points}"), count, turns, &edits, &file, bench_insertions, locks::insertions, cells::insertions);
+            line(&format!("insertion done, map by value, up to {points}"), count, turns, &edits, &file, bench_map_insertions, locks::insertions, cells::insertions);
+        }
+        line(&format!("all knots built anew, {points} points"), 1.0, 20000 / points as u64, &edits, &file, bench_knots, locks::knots, cells::knots);
+        line(&format!("evaluation with knots kept, {points} points"), 1.0, 20000, &edits, &file, bench_evaluations, locks::evaluations, cells::evaluations);
+        line(&format!("ray of 2, over lent sides, {points} points"), 1.0, 100000, &edits, &file, bench_rays, locks::rays, cells::rays);
     }
     for moves in [1, 100] {
         let edits = row(moves);
-        let rust = |repeats| {
-            let map = map_of(&edits);
-            (0..repeats).map(|_| black_box(map.store.navigate_until_con(0, 1, 0)).map_or(0, |(point, _)| point as u64)).sum()
-        };
-        line(&format!("walk of {moves} moves, store by value"), 1.0, 20000, &edits, bench_walks, rust);
-        line(&format!("walk of {moves} moves, over lent sides"), 1.0, 20000, &edits, bench_lent_walks, rust);
+        let file = bytes(&edits);
+        line(&format!("walk of {moves} moves, store by value"), 1.0, 20000, &edits, &file, bench_walks, locks::walks, cells::walks);
+        line(&format!("walk of {moves} moves, over lent sides"), 1.0, 20000, &edits, &file, bench_lent_walks, locks::walks, cells::walks);
     }
+    line("basis_function", 1.0, 1000000, &[], &[], bench_bases, locks::bases, cells::bases);
+    let edits = filling();
+    line("file of 1,000 edits and one evaluation", 1.0, 20, &edits, &map_file(&edits), bench_files, locks::files, cells::files);
 }

@@ -1,0 +1,57 @@
+// The pieces of work on the published Rust. Included once for each form of its locks, beside the calls by number of oracle/src/original.rs.
+use crate::{BORDER, CORNERS, Edit};
+use published::t_spline::basis_function;
+use std::hint::black_box;
+
+fn map_of(edits: &[Edit]) -> Map {
+    let mut map = Map::new(CORNERS, BORDER);
+    for edit in edits {
+        map.add_control_point(edit.position, edit.point, edit.direction as usize, edit.ratio);
+    }
+    map
+}
+
+pub fn insertions(edits: &[Edit], repeats: u64) -> u64 {
+    (0..repeats).map(|_| map_of(edits).store.points.len() as u64).sum()
+}
+
+pub fn knots(edits: &[Edit], repeats: u64) -> u64 {
+    let map = map_of(edits);
+    let points = map.store.points.len() as u8;
+    (0..repeats).map(|_| (0..points).filter(|&n| black_box(map.store.point_knot_vectors(n)).is_ok()).count() as u64).sum()
+}
+
+pub fn evaluations(edits: &[Edit], repeats: u64) -> u64 {
+    let map = map_of(edits);
+    let (mut s, mut sum) = (0.25, 0.0);
+    for _ in 0..repeats {
+        let z = map.subs(s, 0.5).map_or(2.0, |position| position[2]);
+        sum += z;
+        s = 0.25 + z * 0.0625;
+    }
+    sum.to_bits()
+}
+
+pub fn rays(edits: &[Edit], repeats: u64) -> u64 {
+    let map = map_of(edits);
+    (0..repeats).map(|_| black_box(map.store.cast_ray(0, 1, 2)).map_or(0, |entries| entries.len() as u64)).sum()
+}
+
+pub fn walks(edits: &[Edit], repeats: u64) -> u64 {
+    let map = map_of(edits);
+    (0..repeats).map(|_| black_box(map.store.navigate_until_con(0, 1, 0)).map_or(0, |(point, _)| point as u64)).sum()
+}
+
+pub fn bases(_: &[Edit], repeats: u64) -> u64 {
+    let (mut u, mut sum) = (0.5, 0.0);
+    for _ in 0..repeats {
+        let weight = basis_function(u, &[-1.0, -1.0, 0.0, 1.0, 2.0]);
+        sum += weight;
+        u = 0.25 + weight * 0.0625;
+    }
+    sum.to_bits()
+}
+
+pub fn files(edits: &[Edit], repeats: u64) -> u64 {
+    (0..repeats).map(|_| map_of(edits).subs(0.5, 0.5).map_or(0, |position| position[2].to_bits() % 7)).sum()
+}

@@ -1,0 +1,327 @@
+// What bench/ times. Each function does one piece of work so many times on the map of a list of edits, and answers a number that
+// depends on every turn. An edit is 34 bytes: point, direction, ratio, position, as in a map file.
+use basis::basis_function;
+use big_endian::after;
+use big_endian::byte_at;
+use big_endian::float_at;
+use control_point::sides::fill;
+use control_point::small::closeness;
+use control_point::t_mesh_direction::TmeshDirection;
+use evaluation::evaluation::EvaluationAnswer;
+use evaluation::evaluation::subs;
+use gatemap_host::gatemap_set_point;
+use knot_vectors::knots::generate_knot_vectors;
+use navigation::walk::Walk;
+use navigation::walk::navigate;
+use ray::ray::cast;
+use store::walk::navigate_until_con;
+use t_mesh::add::add_control_point;
+use t_mesh::add::insert_into;
+use t_mesh::t_mesh::Mesh;
+use t_mesh::t_mesh::Position;
+use t_mesh::t_mesh::Tmesh;
+use t_mesh::t_mesh::store_of;
+
+const EDIT_BYTES: usize = 34;
+
+// The bits of 0.5.
+const HALF: u64 = 0x3fe0_0000_0000_0000;
+
+// A fresh map: border 1.0, the corners of document 01's sample.
+fn fresh() -> Tmesh {
+    Tmesh::new(
+        1.0,
+        Position {
+            x: 0.0,
+            y: 0.0,
+            z: 0.0,
+        },
+        Position {
+            x: 1.0,
+            y: 0.0,
+            z: 0.0,
+        },
+        Position {
+            x: 1.0,
+            y: 1.0,
+            z: 1.0,
+        },
+        Position {
+            x: 0.0,
+            y: 1.0,
+            z: 1.0,
+        },
+    )
+}
+
+fn position_of(edit: &[u8]) -> Position {
+    Position {
+        x: float_at(edit, 10),
+        y: float_at(edit, 18),
+        z: float_at(edit, 26),
+    }
+}
+
+// The mesh after one edit.
+fn edited_mesh(mesh: Mesh, edit: &[u8]) -> Mesh {
+    let inserted = insert_into(
+        closeness(),
+        mesh,
+        byte_at(edit, 0),
+        TmeshDirection::numbered(byte_at(edit, 1)),
+        float_at(edit, 2),
+        position_of(edit),
+    );
+    inserted.mesh
+}
+
+// The mesh after all edits.
+fn mesh_of(edits: &[u8]) -> Mesh {
+    let map = fresh();
+    let mut mesh = map.mesh;
+    let mut left = edits.len();
+    while EDIT_BYTES <= left {
+        let edit = after(edits, edits.len() - left);
+        mesh = edited_mesh(mesh, edit);
+        left -= EDIT_BYTES;
+    }
+    mesh
+}
+
+// The map after one edit.
+fn edited(map: Tmesh, edit: &[u8]) -> Tmesh {
+    let added = add_control_point(
+        map,
+        byte_at(edit, 0),
+        TmeshDirection::numbered(byte_at(edit, 1)),
+        float_at(edit, 2),
+        position_of(edit),
+    );
+    added.map
+}
+
+// The map after all edits.
+fn map_of(edits: &[u8]) -> Tmesh {
+    let mut map = fresh();
+    let mut left = edits.len();
+    while EDIT_BYTES <= left {
+        let edit = after(edits, edits.len() - left);
+        map = edited(map, edit);
+        left -= EDIT_BYTES;
+    }
+    map
+}
+
+// A count with one more added, kept below 2 to the 33rd.
+fn counted(total: u64, more: u8) -> u64 {
+    total % 0x1_0000_0000 + (more as u64)
+}
+
+// The edits run from a fresh mesh, again and again: how many points stand made in the end.
+#[no_mangle]
+pub extern "C" fn bench_insertions(edits: &[u8], repeats: u64) -> u64 {
+    let mut total: u64 = 0;
+    let mut turn: u64 = 0;
+    while turn < repeats {
+        let mesh = mesh_of(edits);
+        total = counted(total, mesh.made);
+        turn += 1;
+    }
+    total
+}
+
+// The same on a map, its knots carried along.
+#[no_mangle]
+pub extern "C" fn bench_map_insertions(edits: &[u8], repeats: u64) -> u64 {
+    let mut total: u64 = 0;
+    let mut turn: u64 = 0;
+    while turn < repeats {
+        let map = map_of(edits);
+        let made = map.mesh.made;
+        total = counted(total, made);
+        turn += 1;
+    }
+    total
+}
+
+// The knots of all listed points built anew.
+#[no_mangle]
+pub extern "C" fn bench_knots(edits: &[u8], repeats: u64) -> u64 {
+    let mut map = map_of(edits);
+    let mut turn: u64 = 0;
+    while turn < repeats {
+        let generated = generate_knot_vectors(map);
+        map = generated.map;
+        turn += 1;
+    }
+    if map.kept { 1 } else { 0 }
+}
+
+fn height(answer: EvaluationAnswer) -> f64 {
+    match answer {
+        EvaluationAnswer::Is(value) => value.z,
+        EvaluationAnswer::Refused(_) => 2.0,
+    }
+}
+
+// Evaluations with knots kept: the bits of the sum of their heights.
+#[no_mangle]
+pub extern "C" fn bench_evaluations(edits: &[u8], repeats: u64) -> u64 {
+    let mut map = map_of(edits);
+    let mut s = 0.25;
+    let mut sum = 0.0;
+    let mut turn: u64 = 0;
+    while turn < repeats {
+        let evaluated = subs(map, s, 0.5);
+        let answer = evaluated.answer;
+        map = evaluated.map;
+        let z = height(answer);
+        sum = sum + z;
+        s = 0.25 + z * 0.0625;
+        turn += 1;
+    }
+    float64::to_bits(sum)
+}
+
+// A walk's moves, and where the next one starts: at 0, by a test that the result decides.
+fn moves_of(walk: Walk) -> u8 {
+    match walk {
+        Walk::Reached(_, _, moves) => moves,
+        Walk::Refused(_) => 0,
+    }
+}
+
+fn next_start(moves: u8) -> u8 {
+    if moves == 255 { 1 } else { 0 }
+}
+
+// Walks Right from corner 0, watching Up, on a store by value.
+#[no_mangle]
+pub extern "C" fn bench_walks(edits: &[u8], repeats: u64) -> u64 {
+    let map = map_of(edits);
+    let store = store_of(map.mesh);
+    let mut start: u8 = 0;
+    let mut total: u64 = 0;
+    let mut turn: u64 = 0;
+    while turn < repeats {
+        let moves = moves_of(navigate_until_con(
+            store,
+            start,
+            TmeshDirection::Right,
+            TmeshDirection::Up,
+        ));
+        start = next_start(moves);
+        total = counted(total, moves);
+        turn += 1;
+    }
+    total
+}
+
+// The same over lent sides.
+#[no_mangle]
+pub extern "C" fn bench_lent_walks(edits: &[u8], repeats: u64) -> u64 {
+    let map = map_of(edits);
+    let points = map.mesh.points;
+    let made = map.mesh.made;
+    let mut kinds = [2u8; 512];
+    let mut numbers = [0u8; 512];
+    let mut intervals = [0.0; 512];
+    fill(&mut kinds, &mut numbers, &mut intervals, points);
+    let mut start: u8 = 0;
+    let mut total: u64 = 0;
+    let mut turn: u64 = 0;
+    while turn < repeats {
+        let moves = moves_of(navigate(
+            &kinds,
+            &numbers,
+            &intervals,
+            made,
+            start,
+            TmeshDirection::Right,
+            TmeshDirection::Up,
+        ));
+        start = next_start(moves);
+        total = counted(total, moves);
+        turn += 1;
+    }
+    total
+}
+
+// The answer number of a ray of length 2 Right.
+fn ray_number<'a>(
+    kinds: &'a [u8; 512],
+    numbers: &'a [u8; 512],
+    intervals: &'a [f64; 512],
+    made: u8,
+    start: u8,
+) -> u8 {
+    let mut entries = [0.0; 2];
+    let outcome = cast(
+        closeness(),
+        kinds,
+        numbers,
+        intervals,
+        made,
+        start,
+        TmeshDirection::Right,
+        &mut entries,
+    );
+    outcome.number()
+}
+
+// Rays of length 2 Right from corner 0, over lent sides: the sum of their answer numbers.
+#[no_mangle]
+pub extern "C" fn bench_rays(edits: &[u8], repeats: u64) -> u64 {
+    let map = map_of(edits);
+    let points = map.mesh.points;
+    let made = map.mesh.made;
+    let mut kinds = [0u8; 512];
+    let mut numbers = [0u8; 512];
+    let mut intervals = [0.0; 512];
+    fill(&mut kinds, &mut numbers, &mut intervals, points);
+    let mut start: u8 = 0;
+    let mut total: u64 = 0;
+    let mut turn: u64 = 0;
+    while turn < repeats {
+        let number = ray_number(&kinds, &numbers, &intervals, made, start);
+        start = next_start(number);
+        total = counted(total, number);
+        turn += 1;
+    }
+    total
+}
+
+// Basis functions of a corner's knots: the bits of the sum.
+#[no_mangle]
+pub extern "C" fn bench_bases(edits: &[u8], repeats: u64) -> u64 {
+    let knots = [-1.0, -1.0, 0.0, 1.0, 2.0];
+    let mut u = 0.5;
+    let mut sum = 0.0;
+    let mut turn: u64 = 0;
+    while turn < repeats {
+        let weight = basis_function(u, knots);
+        sum = sum + weight;
+        u = 0.25 + weight * 0.0625;
+        turn += 1;
+    }
+    float64::to_bits(sum)
+}
+
+// The answer number of the C call at (0.5, 0.5).
+fn file_number(file: &[u8]) -> u8 {
+    let mut out = [0u8; 32];
+    let number = gatemap_set_point(file, HALF, HALF, &mut out);
+    (number % 256) as u8
+}
+
+// The C call on a map file: the sum of its answer numbers.
+#[no_mangle]
+pub extern "C" fn bench_files(file: &[u8], repeats: u64) -> u64 {
+    let mut total: u64 = 0;
+    let mut turn: u64 = 0;
+    while turn < repeats {
+        total = counted(total, file_number(file));
+        turn += 1;
+    }
+    total
+}
