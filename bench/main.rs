@@ -37,7 +37,7 @@ unsafe extern "C" {
     fn bench_walks(edits: *const u8, length: usize, repeats: u64) -> u64;
     fn bench_lent_walks(edits: *const u8, length: usize, repeats: u64) -> u64;
     fn bench_bases(edits: *const u8, length: usize, repeats: u64) -> u64;
-    fn bench_files(file: *const u8, length: usize, repeats: u64) -> u64;
+    fn gatemap_set_point(file: *const u8, length: usize, s: u64, t: u64, out: *mut u8, room: usize) -> u64;
 }
 
 pub struct Edit {
@@ -114,6 +114,20 @@ fn filling() -> Vec<Edit> {
     (0..FILE_EDITS).map(|place| edit_that_is(&mut random, &mut map, done_by(place) < done_by(place + 1))).collect()
 }
 
+/// The edits of a file drawn without a look at the map: a point below 128, a direction, a ratio in 1,024ths.
+fn any_edits() -> Vec<Edit> {
+    let mut random = Random::new(20030727);
+    let mut edit = || Edit { ratio: random.below(1025) as f64 / 1024.0, ..any_edit(&mut random, MOST_POINTS) };
+    (0..FILE_EDITS).map(|_| edit()).collect()
+}
+
+/// The C call at (0.5, 0.5), so many times.
+unsafe extern "C" fn files(file: *const u8, length: usize, repeats: u64) -> u64 {
+    let half = 0.5f64.to_bits();
+    let mut out = [0; 32];
+    (0..repeats).map(|_| unsafe { gatemap_set_point(file, length, half, half, out.as_mut_ptr(), out.len()) } + out[7] as u64).sum()
+}
+
 /// Edits along the bottom edge, so that a walk Right from corner 0 makes so many moves.
 fn row(moves: usize) -> Vec<Edit> {
     (1..moves).map(|n| Edit { point: if n == 1 { 0 } else { n as u8 + 2 }, direction: 1, ratio: 0.5, position: [0.5; 3] }).collect()
@@ -169,6 +183,7 @@ fn main() {
         line(&format!("walk of {moves} moves, over lent sides"), 1.0, 20000, &edits, &file, bench_lent_walks, locks::walks, cells::walks);
     }
     line("basis_function", 1.0, 1000000, &[], &[], bench_bases, locks::bases, cells::bases);
-    let edits = filling();
-    line("file of 1,000 edits and one evaluation", 1.0, 20, &edits, &map_file(&edits), bench_files, locks::files, cells::files);
+    for (name, edits) in [("124 edits done, 876 refused", filling()), ("1,000 edits drawn blindly", any_edits())] {
+        line(&format!("file of {name}"), 1.0, 20, &edits, &map_file(&edits), files, locks::files, cells::files);
+    }
 }

@@ -6,7 +6,9 @@ use std::hint::black_box;
 fn map_of(edits: &[Edit]) -> Map {
     let mut map = Map::new(CORNERS, BORDER);
     for edit in edits {
-        map.add_control_point(edit.position, edit.point, edit.direction as usize, edit.ratio);
+        if (edit.point as usize) < map.store.points.len() {
+            map.add_control_point(edit.position, edit.point, edit.direction as usize, edit.ratio);
+        }
     }
     map
 }

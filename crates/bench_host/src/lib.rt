@@ -9,7 +9,6 @@ use control_point::small::closeness;
 use control_point::t_mesh_direction::TmeshDirection;
 use evaluation::evaluation::EvaluationAnswer;
 use evaluation::evaluation::subs;
-use gatemap_host::gatemap_set_point;
 use knot_vectors::knots::generate_knot_vectors;
 use navigation::walk::Walk;
 use navigation::walk::navigate;
@@ -23,9 +22,6 @@ use t_mesh::t_mesh::Tmesh;
 use t_mesh::t_mesh::store_of;
 
 const EDIT_BYTES: usize = 34;
-
-// The bits of 0.5.
-const HALF: u64 = 0x3fe0_0000_0000_0000;
 
 // A fresh map: border 1.0, the corners of document 01's sample.
 fn fresh() -> Tmesh {
@@ -305,23 +301,4 @@ pub extern "C" fn bench_bases(edits: &[u8], repeats: u64) -> u64 {
         turn += 1;
     }
     float64::to_bits(sum)
-}
-
-// The answer number of the C call at (0.5, 0.5).
-fn file_number(file: &[u8]) -> u8 {
-    let mut out = [0u8; 32];
-    let number = gatemap_set_point(file, HALF, HALF, &mut out);
-    (number % 256) as u8
-}
-
-// The C call on a map file: the sum of its answer numbers.
-#[no_mangle]
-pub extern "C" fn bench_files(file: &[u8], repeats: u64) -> u64 {
-    let mut total: u64 = 0;
-    let mut turn: u64 = 0;
-    while turn < repeats {
-        total = counted(total, file_number(file));
-        turn += 1;
-    }
-    total
 }
