@@ -1,12 +1,2 @@
--- What the functions' proofs cite, and the proofs of the statements of specs/Exact.
+-- What the functions' proofs cite.
 pub mod Table
-pub mod Field
-pub mod Place
-pub mod FormulaIsRecursion
-pub mod NoQuotientByZero
-pub mod Homomorphism
-pub mod IntegerLaws
-pub mod IntegerOrder
-pub mod FractionLaws
-pub mod Rationals
-pub mod Exact

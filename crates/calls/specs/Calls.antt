@@ -9,8 +9,8 @@ use Rattle.insertion.specs.declared.insertion.InsertAnswer.{InsertAnswer}
 use Rattle.t_mesh.specs.Insertion.{addControlPoint}
 use Rattle.t_mesh.specs.declared.t_mesh.Position.{Position}
 use Rattle.t_mesh.specs.declared.t_mesh.Tmesh.{Tmesh}
-use Rattle.evaluation.specs.Evaluation.{subsOf}
-use Rattle.evaluation.specs.declared.evaluation.EvaluationAnswer.{EvaluationAnswer}
+use Rattle.surface.specs.Evaluation.{subsOf}
+use Rattle.surface.specs.declared.evaluation.EvaluationAnswer.{EvaluationAnswer}
 
 -- a call: an insertion towards a direction of a point, at a ratio, of a position; or an evaluation at (s, t)
 pub data Call : Type 0 where

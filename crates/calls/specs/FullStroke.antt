@@ -15,9 +15,9 @@ use Rattle.control_point.specs.declared.t_mesh_direction.TmeshDirection.{TmeshD
 use Rattle.insertion.specs.declared.insertion.InsertAnswer.the-variants.{Done}
 use Rattle.t_mesh.specs.Tmesh.{Axis, coordinate, newTmesh}
 use Rattle.t_mesh.specs.declared.t_mesh.Position.{Position}
-use Rattle.evaluation.specs.Evaluation.{onAxis}
-use Rattle.evaluation.specs.declared.evaluation.Evaluation.{Evaluation}
-use Rattle.evaluation.specs.declared.evaluation.EvaluationAnswer.the-variants.{Is}
+use Rattle.surface.specs.Evaluation.{onAxis}
+use Rattle.surface.specs.declared.evaluation.Evaluation.{Evaluation}
+use Rattle.surface.specs.declared.evaluation.EvaluationAnswer.the-variants.{Is}
 use Rattle.calls.specs.Calls.{Call, insertion, inserted, evaluated, Event, runOf}
 
 -- from 0 to 1, both ends included

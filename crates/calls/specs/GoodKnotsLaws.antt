@@ -23,12 +23,12 @@ use Rattle.navigation.specs.declared.walk.Walk.{Walk}
 use Rattle.navigation.specs.declared.walk.Walk.the-variants.{Reached, Refused as NoWalk}
 use Rattle.store.specs.Store.{storeSides, storePoint}
 use Rattle.store.specs.declared.store.Store.{Store}
-use Rattle.ray_entry.specs.Approach.{approachOf}
+use Rattle.ray_approach.specs.Approach.{approachOf}
 use Rattle.ray_entry.specs.Entry.{afterWalk, cornerWalk, faceWalk, sideEntry, pointEntry, overFace, aroundFace, afterApproach, entryOf}
 use Rattle.ray.specs.Ray.{Ray, entries, refused, before, afterEntry, rayFrom, rayOf}
 use Rattle.ray.specs.Knots.{first, second, fiveKnots, afterRay, knotsAt, pointKnotVectors}
-use Rattle.ray_entry.specs.declared.approach.Approach.{Approach}
-use Rattle.ray_entry.specs.declared.approach.Approach.the-variants.{Aligned, Crossed, Refused as NoApproach}
+use Rattle.ray_approach.specs.declared.approach.Approach.{Approach}
+use Rattle.ray_approach.specs.declared.approach.Approach.the-variants.{Aligned, Crossed, Refused as NoApproach}
 use Rattle.ray_entry.specs.declared.entry.Entry.{Entry}
 use Rattle.ray_entry.specs.declared.entry.Entry.the-variants.{Is, Refused as NoEntry}
 use Rattle.ray_entry.specs.declared.entry.Front.{Front}
@@ -37,7 +37,7 @@ use Rattle.ray.specs.declared.knots.PointKnots.{PointKnots}
 use Rattle.t_mesh.specs.Tmesh.{storeOf, isListed, blankKnots}
 use Rattle.t_mesh.specs.declared.t_mesh.Tmesh.{Tmesh}
 use Rattle.knot_vectors.specs.Knots.{AllKnots, all, none, onAll, inRow, withRow, rowsFrom, allKnots}
-use Rattle.evaluation.specs.Evaluation.{noKnots as noRow}
+use Rattle.surface.specs.Evaluation.{noKnots as noRow}
 use Rattle.mirror.specs.BoolLaws.{cond-case}
 use Rattle.calls.specs.ListLaws.{set-case}
 use Rattle.calls.specs.Good.{NotNegative, GoodSide, GoodSides, GoodStore, GoodWalk, GoodEntry, GoodEntries, GoodRay, GoodBasis, GoodKnots, GoodRows}

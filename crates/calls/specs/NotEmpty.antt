@@ -17,9 +17,9 @@ use Rattle.insertion.specs.declared.insertion.InsertAnswer.the-variants.{Done, 
 use Rattle.t_mesh.specs.Tmesh.{Axis, X, coordinate, storeOf, isListed, newTmesh}
 use Rattle.t_mesh.specs.declared.t_mesh.Position.{Position}
 use Rattle.t_mesh.specs.declared.t_mesh.Tmesh.{Tmesh}
-use Rattle.evaluation.specs.Evaluation.{onAxis, positionOf}
-use Rattle.evaluation.specs.declared.evaluation.Evaluation.{Evaluation}
-use Rattle.evaluation.specs.declared.evaluation.EvaluationAnswer.the-variants.{Is}
+use Rattle.surface.specs.Evaluation.{onAxis, positionOf}
+use Rattle.surface.specs.declared.evaluation.Evaluation.{Evaluation}
+use Rattle.surface.specs.declared.evaluation.EvaluationAnswer.the-variants.{Is}
 use Rattle.calls.specs.Calls.{Call, insertion, evaluation, inserted, evaluated, mapAfter, runOf}
 use Rattle.calls.specs.FullStroke.{InUnit, Each, DoneInUnit}
 use Rattle.calls.specs.ExampleValues.{half, seven, positionAt}

@@ -10,7 +10,7 @@ use Rattle.navigation.specs.Walk.{onward, walkOf}
 use Rattle.search.specs.Search.{judgeAt, seekFrom, findInferredConnection}
 use Rattle.store.specs.Store.{emptyStore, makeLoose, connectPoints, removeEdgeCondition}
 use Rattle.insertion.specs.Insert.{inUnit, checked, checkedIntervals, placed, newSide, firstSide, withFirst, secondSide, sided, insertPoint}
-use Rattle.ray_entry.specs.Approach.{approachIn, approachOf}
+use Rattle.ray_approach.specs.Approach.{approachIn, approachOf}
 use Rattle.ray.specs.Ray.{rayFrom, rayOf}
 use Rattle.ray.specs.Knots.{knotsAt, pointKnotVectors}
 use Rattle.t_mesh.specs.Tmesh.{newTmesh}

@@ -9,8 +9,8 @@ use Rattle.float64.specs.Sign.{0f}
 use Rattle.t_mesh.specs.Tmesh.{Axis, coordinate, storeOf}
 use Rattle.t_mesh.specs.declared.t_mesh.Position.{Position}
 use Rattle.t_mesh.specs.declared.t_mesh.Tmesh.{Tmesh}
-use Rattle.evaluation.specs.Evaluation.{onAxis}
-use Rattle.evaluation.specs.declared.evaluation.EvaluationAnswer.the-variants.{Is, Refused}
+use Rattle.surface.specs.Evaluation.{onAxis}
+use Rattle.surface.specs.declared.evaluation.EvaluationAnswer.the-variants.{Is, Refused}
 use Rattle.calls.specs.Calls.{Answer, inserted, evaluated}
 use Rattle.calls.specs.FullStroke.{InUnit}
 use Rattle.calls.specs.Good.{GoodStore, GoodRows}

@@ -31,8 +31,8 @@ use Rattle.t_mesh.specs.Insertion.{afterInsertion, addControlPoint}
 use Rattle.t_mesh.specs.declared.t_mesh.Position.{Position}
 use Rattle.t_mesh.specs.declared.t_mesh.Tmesh.{Tmesh}
 use Rattle.knot_vectors.specs.Knots.{AllKnots, all, none, allKnots, keeping, generateKnotVectors}
-use Rattle.evaluation.specs.Evaluation.{noKnots, noPosition, positionOf, knotsOf, weightOf, shareOf, sumFrom, totalWeight, meanOn, valueOf, withKnots, subsOf, evaluatedBy}
-use Rattle.evaluation.specs.declared.evaluation.EvaluationAnswer.the-variants.{Is}
+use Rattle.surface.specs.Evaluation.{noKnots, noPosition, positionOf, knotsOf, weightOf, shareOf, sumFrom, totalWeight, meanOn, valueOf, withKnots, subsOf, evaluatedBy}
+use Rattle.surface.specs.declared.evaluation.EvaluationAnswer.the-variants.{Is}
 use Rattle.knot_vectors.specs.declared.knots.Generated.{Generated}
 use Rattle.calls.specs.Calls.{evaluated}
 use Rattle.calls.specs.FullStroke.{InUnit}

@@ -1,4 +1,3 @@
 // What is counted and listed of a map.
 pub mod census;
 pub mod counts;
-pub mod openings;

@@ -1,3 +1,2 @@
-pub mod Opened
 pub mod Settled
 pub mod Stored

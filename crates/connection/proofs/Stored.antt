@@ -1,13 +1,13 @@
--- What two stores to a store of points come to: two points linked, or a link opened at both ends.
+-- What two stores to a store of points come to: two points linked.
 use Prim.Native.Nat.{ℕ}
 use mathlib.Core.Path.{_≡_}
 use lib.Ieee.{Float}
 use Rattle.control_point.specs.Direction.{flipOf}
 use Rattle.control_point.specs.Point.{withSide, movedFrom}
 use Rattle.control_point.specs.declared.t_mesh_direction.TmeshDirection.{TmeshDirection}
-use Rattle.control_point.specs.declared.t_mesh_control_point.Side.the-variants.{Link, Opening}
+use Rattle.control_point.specs.declared.t_mesh_control_point.Side.the-variants.{Link}
 use Rattle.control_point.specs.declared.t_mesh_control_point.TmeshControlPoint.{TmeshControlPoint}
-use Rattle.store.specs.Store.{storePoint, withPoint, withSideAt, linked}
+use Rattle.store.specs.Store.{storePoint, withPoint, linked}
 use Rattle.store.specs.declared.store.Store.{Store}
 
 module _ (store : Store) (d back : TmeshDirection) (b : back ≡ flipOf d) (next last : Store) where
@@ -21,13 +21,3 @@ module _ (store : Store) (d back : TmeshDirection) (b : back ≡ flipOf d) (next
       → last ≡ withPoint next other moved
       → last ≡ linked store first other d interval
   linked-stored first other interval near far ahead joined moved n f a j m x y = rw (y, x, m, j, a, f, n, b)
-
-  pub opened-stored : (n m : ℕ) (point near reached far : TmeshControlPoint)
-      → point ≡ storePoint store n
-      → near ≡ withSide point d Opening
-      → next ≡ withPoint store n near
-      → reached ≡ storePoint next m
-      → far ≡ withSide reached back Opening
-      → last ≡ withPoint next m far
-      → last ≡ withSideAt (withSideAt store n d Opening) m (flipOf d) Opening
-  opened-stored n m point near reached far p o x r f y = rw (y, f, r, x, o, p, b)

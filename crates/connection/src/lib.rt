@@ -1,3 +1,2 @@
-// Linking two points of a store, and opening a connection.
+// Linking two points of a store.
 pub mod connect;
-pub mod remove;

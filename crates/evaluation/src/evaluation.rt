@@ -1,53 +1,18 @@
 // The surface at a place.
 ghost use mathlib.Core.Path.{_≡_};
 ghost use Rattle.control_point.specs.Small.{millionth};
-ghost use Rattle.evaluation.specs.Evaluation.{evaluationNumber, shareBy, answerBy, subsOf, weighty, setPoint};
+ghost use Rattle.surface.specs.Evaluation.{shareBy, answerBy, subsOf, weighty, setPoint};
 use basis::basis_function;
 use control_point::refusal::Outcome;
 use control_point::refusal::Refusal;
 use knot_vectors::knots::generate_knot_vectors;
 use ray::knots::PointKnots;
+use surface::evaluation::Evaluated;
+use surface::evaluation::Evaluation;
+use surface::evaluation::EvaluationAnswer;
+use surface::evaluation::Share;
 use t_mesh::t_mesh::Position;
 use t_mesh::t_mesh::Tmesh;
-
-// A position with its total weight.
-pub struct Evaluation {
-    pub x: f64,
-    pub y: f64,
-    pub z: f64,
-    pub weight: f64,
-}
-
-pub enum EvaluationAnswer {
-    Is(Evaluation),
-    Refused(Refusal),
-}
-
-impl EvaluationAnswer {
-    // Its answer number, 0 where there is a value.
-    pub fn number(self) -> u8
-        ensures { λ r. ⌜ r ≡ evaluationNumber self ⌝ }
-    {
-        match self {
-            EvaluationAnswer::Is(_) => 0,
-            EvaluationAnswer::Refused(refusal) => refusal.number(),
-        }
-    }
-}
-
-// What an evaluation answers, and the map after it.
-pub struct Evaluated {
-    pub answer: EvaluationAnswer,
-    pub map: Tmesh,
-}
-
-// A point's weight, and its position times that.
-struct Share {
-    x: f64,
-    y: f64,
-    z: f64,
-    weight: f64,
-}
 
 fn share_of(knots: PointKnots, position: Position, s: f64, t: f64) -> Share
     ensures { λ r. ⌜ r ≡ shareBy knots position s t ⌝ }

@@ -2,36 +2,18 @@
 -- some behind. Every byte of the page is the filler before.
 --
 -- A stored call is 50 bytes: s 8, t 8, the buffer's length 1, the answer's number 1, and the page's bytes from the buffer's start on, 32; refused, these are the filler.
-use Prim.Native.Nat.{ℕ, zero, suc, _+_, _-_}
-use mathlib.Core.Bool.{Bool, true, false, cond, _&&_}
+use Prim.Native.Nat.{ℕ, _+_, _-_}
+use mathlib.Core.Bool.{Bool, false, cond, _&&_}
 use mathlib.Core.List.{List, _++_}
 use lib.Dec.{eqb, ltb}
-use lib.ListN.{getD, length, take, drop}
+use lib.ListN.{length, take, drop}
 use Rattle.big_endian.specs.BigEndian.{byteAt, numberAt}
 use Rattle.big_endian.specs.Written.{written}
 use Rattle.gatemap_host.specs.SetPoint.{hostNumber, hostBuffer}
 use Rattle.report.specs.Report.{reportOf}
-
-abbrev pub guard : ℕ
-guard = 16
-
-abbrev pub filler : ℕ
-filler = 165
+use Rattle.stored_page.specs.Page.{guard, holds}
 
 -- ---- a page
--- the byte at a place of a page whose buffer begins with the bytes held
-unfoldable pub expectedByte : List ℕ → ℕ → ℕ
-expectedByte held place = cond (ltb place guard) filler (getD held (place - guard) filler)
-
--- whether the first so many bytes of a page are those
-unfoldable pub holdsTo : ℕ → List ℕ → List ℕ → Bool
-holdsTo zero page held = true
-holdsTo (suc n) page held = holdsTo n page held && eqb (byteAt page n) (expectedByte held n)
-
--- whether a page holds those bytes, and nothing else
-abbrev pub holds : List ℕ → List ℕ → Bool
-holds page held = holdsTo (length page) page held
-
 -- the buffer that ends at a place, and the page with other bytes in the buffer's place
 abbrev pub bufferOf : List ℕ → ℕ → List ℕ
 bufferOf page end = take (end - guard) (drop guard page)

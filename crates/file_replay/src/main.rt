@@ -2,7 +2,6 @@
 mod judge;
 
 use crate::judge::CALL_BYTES;
-use crate::judge::FILLER;
 use crate::judge::call_is_right;
 use crate::judge::text_is_right;
 use big_endian::after;
@@ -15,6 +14,7 @@ use replay::count_outcome;
 use replay::is_end;
 use replay::outcome_of;
 use stored_calls::points::both;
+use stored_page::FILLER;
 
 // More cases than the file holds: the loop ends with the file.
 const MOST_CASES: u64 = 1000000;

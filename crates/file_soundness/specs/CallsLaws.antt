@@ -7,7 +7,7 @@ use Rattle.t_mesh.specs.declared.t_mesh.Tmesh.{Tmesh}
 use Rattle.calls.specs.Calls.{Call, insertion, mapAfter}
 use Rattle.soundness.specs.Theorems.{mapAfterAll}
 use Rattle.map_file.specs.Run.{edited, afterEdits}
-use Rattle.map_file.specs.declared.format.Edit.{Edit}
+use Rattle.map_format.specs.declared.format.Edit.{Edit}
 
 -- an edit as a call
 abbrev pub callOf : Edit → Call

@@ -5,11 +5,12 @@ use mathlib.Core.List.{List, _++_, append-assoc}
 use Rattle.control_point.specs.Small.{millionth}
 use Rattle.census.specs.Census.{countsOf}
 use Rattle.t_mesh.specs.Tmesh.{storeOf}
-use Rattle.map_file.specs.Format.{checkedFile}
+use Rattle.map_format.specs.Format.{checkedFile}
 use Rattle.map_file.specs.Run.{fileMap, fileNumbers, setPointAt, checkedSetPoint, fileSetPoint}
-use Rattle.map_file.specs.declared.format.FileCheck.{FileCheck}
-use Rattle.map_file.specs.declared.format.FileCheck.the-variants.{Valid}
-use Rattle.report.specs.Report.{editLines, countsLine, openLines, midLine, half, checkedReport, reportOf}
+use Rattle.map_format.specs.declared.format.FileCheck.{FileCheck}
+use Rattle.map_format.specs.declared.format.FileCheck.the-variants.{Valid}
+use Rattle.report_lines.specs.Lines.{editLines, countsLine, openLines, midLine}
+use Rattle.report.specs.Report.{half, checkedReport, reportOf}
 use Rattle.gatemap_host.specs.SetPoint.{hostAnswer, hostNumber, hostBuffer}
 use Rattle.file_soundness.specs.Theorems.{BytesDecide, EndsAgree, halfBits}
 

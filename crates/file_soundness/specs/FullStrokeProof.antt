@@ -28,20 +28,21 @@ use Rattle.insertion.specs.Insert.{answerNumber}
 use Rattle.t_mesh.specs.Tmesh.{Axis, X, Y, Z, coordinate}
 use Rattle.t_mesh.specs.declared.t_mesh.Position.{Position}
 use Rattle.t_mesh.specs.declared.t_mesh.Tmesh.{Tmesh}
-use Rattle.evaluation.specs.Evaluation.{onAxis, evaluationNumber, valueOf, answerBy, withKnots, weighty, setPoint, subsOf, noPosition}
-use Rattle.evaluation.specs.declared.evaluation.Evaluation.{Evaluation}
-use Rattle.evaluation.specs.declared.evaluation.EvaluationAnswer.{EvaluationAnswer}
-use Rattle.evaluation.specs.declared.evaluation.EvaluationAnswer.the-variants.{Is, Refused}
+use Rattle.surface.specs.Evaluation.{onAxis, evaluationNumber, valueOf, answerBy, withKnots, weighty, setPoint, subsOf, noPosition}
+use Rattle.surface.specs.declared.evaluation.Evaluation.{Evaluation}
+use Rattle.surface.specs.declared.evaluation.EvaluationAnswer.{EvaluationAnswer}
+use Rattle.surface.specs.declared.evaluation.EvaluationAnswer.the-variants.{Is, Refused}
 use Rattle.calls.specs.Calls.{Call, insertion, evaluation, Answer, inserted, evaluated, Event, runOf}
 use Rattle.calls.specs.FullStroke.{InUnit, Each, DoneInUnit as CallDoneInUnit, EvaluationInUnit}
 use Rattle.calls.specs.FullStrokeProof.{never-past-full-stroke}
 use Rattle.mirror.specs.BoolLaws.{cond-case}
-use Rattle.map_file.specs.Format.{versionAt, theVersion, borderAt, editsAt, editCount, editsFrom, lengthRight, headingsRight, checkedFile}
+use Rattle.map_format.specs.Format.{versionAt, theVersion, borderAt, editsAt, editCount, editsFrom, lengthRight, headingsRight, checkedFile}
 use Rattle.map_file.specs.Run.{cornerOf, freshMap, edited, afterEdits, editNumbers, fileMap, asSetPoint, checkedSetPoint, fileSetPoint}
-use Rattle.map_file.specs.declared.format.Edit.{Edit}
-use Rattle.map_file.specs.declared.format.FileCheck.{FileCheck}
-use Rattle.map_file.specs.declared.format.FileCheck.the-variants.{Valid, Refused as NotValid}
-use Rattle.gatemap_host.specs.SetPoint.{bitsOf, bytesOfValue, hostAnswer, bufferAfter, hostBuffer}
+use Rattle.map_format.specs.declared.format.Edit.{Edit}
+use Rattle.map_format.specs.declared.format.FileCheck.{FileCheck}
+use Rattle.map_format.specs.declared.format.FileCheck.the-variants.{Valid, Refused as NotValid}
+use Rattle.value_bytes.specs.Value.{bitsOf, bytesOfValue}
+use Rattle.gatemap_host.specs.SetPoint.{hostAnswer, bufferAfter, hostBuffer}
 use Rattle.file_soundness.specs.CallsLaws.{callOf, callsOf}
 use Rattle.file_soundness.specs.Theorems.{DoneInUnit, placeOf, FileNeverPastFullStroke}
 

@@ -12,19 +12,20 @@ use Rattle.control_point.specs.Refusal.{refusalNumber}
 use Rattle.control_point.specs.Small.{millionth}
 use Rattle.control_point.specs.declared.refusal.Refusal.{Refusal}
 use Rattle.mirror.specs.BoolLaws.{cond-case}
-use Rattle.evaluation.specs.Evaluation.{evaluationNumber, weighty, setPoint, subsOf}
-use Rattle.evaluation.specs.declared.evaluation.Evaluation.{Evaluation}
-use Rattle.evaluation.specs.declared.evaluation.EvaluationAnswer.{EvaluationAnswer}
-use Rattle.evaluation.specs.declared.evaluation.EvaluationAnswer.the-variants.{Is, Refused as NoValue}
+use Rattle.surface.specs.Evaluation.{evaluationNumber, weighty, setPoint, subsOf}
+use Rattle.surface.specs.declared.evaluation.Evaluation.{Evaluation}
+use Rattle.surface.specs.declared.evaluation.EvaluationAnswer.{EvaluationAnswer}
+use Rattle.surface.specs.declared.evaluation.EvaluationAnswer.the-variants.{Is, Refused as NoValue}
 use Rattle.calls.specs.Calls.{Call}
 use Rattle.t_mesh.specs.declared.t_mesh.Tmesh.{Tmesh}
 use Rattle.soundness.specs.Theorems.{OneOf, mapAfterAll}
 use Rattle.soundness.specs.EveryMapProof.{evaluation-refusals}
-use Rattle.map_file.specs.Format.{versionAt, theVersion, editsAt, editCount, editsFrom, lengthRight, headingsRight, checkedFile}
+use Rattle.map_format.specs.Format.{versionAt, theVersion, editsAt, editCount, editsFrom, lengthRight, headingsRight, checkedFile}
 use Rattle.map_file.specs.Run.{cornerOf, freshMap, afterEdits, fileMap, asSetPoint, setPointAt, checkedSetPoint, fileSetPoint}
-use Rattle.map_file.specs.declared.format.FileCheck.{FileCheck}
-use Rattle.map_file.specs.declared.format.FileCheck.the-variants.{Valid, Refused}
-use Rattle.gatemap_host.specs.SetPoint.{valueBytes, hostAnswer}
+use Rattle.map_format.specs.declared.format.FileCheck.{FileCheck}
+use Rattle.map_format.specs.declared.format.FileCheck.the-variants.{Valid, Refused}
+use Rattle.value_bytes.specs.Value.{valueBytes}
+use Rattle.gatemap_host.specs.SetPoint.{hostAnswer}
 use Rattle.file_soundness.specs.CallsLaws.{callsOf, edits-are-calls}
 use Rattle.file_soundness.specs.Theorems.{NumbersNamed}
 

@@ -11,11 +11,12 @@ use Rattle.control_point.specs.Small.{millionth}
 use Rattle.t_mesh.specs.Tmesh.{Axis, X, Y, Z, coordinate}
 use Rattle.calls.specs.FullStroke.{InUnit}
 use Rattle.soundness.specs.Theorems.{OneOf}
-use Rattle.map_file.specs.Format.{borderAt, editsAt, editCount, editsFrom, checkedFile}
+use Rattle.map_format.specs.Format.{borderAt, editsAt, editCount, editsFrom, checkedFile}
 use Rattle.map_file.specs.Run.{cornerOf, fileNumbers}
-use Rattle.map_file.specs.declared.format.Edit.{Edit}
-use Rattle.map_file.specs.declared.format.FileCheck.the-variants.{Valid}
-use Rattle.report.specs.Report.{midLine, reportOf}
+use Rattle.map_format.specs.declared.format.Edit.{Edit}
+use Rattle.map_format.specs.declared.format.FileCheck.the-variants.{Valid}
+use Rattle.report_lines.specs.Lines.{midLine}
+use Rattle.report.specs.Report.{reportOf}
 use Rattle.gatemap_host.specs.SetPoint.{hostAnswer, hostNumber, hostBuffer}
 
 -- ---- one definition at both ends

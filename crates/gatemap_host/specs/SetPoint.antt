@@ -3,28 +3,18 @@
 -- of it, is untouched.
 use Prim.Native.Nat.{ℕ}
 use mathlib.Core.Bool.{cond}
-use mathlib.Core.List.{List, _++_}
+use mathlib.Core.List.{List}
 use lib.Dec.{leb}
-use lib.Ieee.{Float, binary64, ofBits, toBits}
+use lib.Ieee.{binary64, ofBits}
 use lib.ListN.{length}
-use Rattle.big_endian.specs.Written.{written, bytesOf}
+use Rattle.big_endian.specs.Written.{written}
 use Rattle.control_point.specs.Small.{millionth}
 use Rattle.control_point.specs.declared.refusal.Refusal.the-variants.{Short}
-use Rattle.evaluation.specs.Evaluation.{evaluationNumber}
-use Rattle.evaluation.specs.declared.evaluation.Evaluation.{Evaluation}
-use Rattle.evaluation.specs.declared.evaluation.EvaluationAnswer.{EvaluationAnswer}
-use Rattle.evaluation.specs.declared.evaluation.EvaluationAnswer.the-variants.{Is, Refused}
+use Rattle.surface.specs.Evaluation.{evaluationNumber}
+use Rattle.surface.specs.declared.evaluation.EvaluationAnswer.{EvaluationAnswer}
+use Rattle.surface.specs.declared.evaluation.EvaluationAnswer.the-variants.{Is, Refused}
 use Rattle.map_file.specs.Run.{fileSetPoint}
-
--- a position and its weight, as they are written
-abbrev pub valueBytes : ℕ
-valueBytes = 32
-
-abbrev pub bitsOf : Float → List ℕ
-bitsOf x = bytesOf 8 (toBits binary64 x)
-
-abbrev pub bytesOfValue : Evaluation → List ℕ
-bytesOfValue value = bitsOf (value .x) ++ (bitsOf (value .y) ++ (bitsOf (value .z) ++ bitsOf (value .weight)))
+use Rattle.value_bytes.specs.Value.{valueBytes, bytesOfValue}
 
 -- what the call finds, in a buffer of a length
 unfoldable pub hostAnswer : List ℕ → ℕ → ℕ → ℕ → EvaluationAnswer

@@ -1,26 +1,14 @@
 // The call of a C host: the bytes of a map file, s and t as bits, and a buffer that receives the value. include/gatemap_host.h says it in C.
 ghost use mathlib.Core.Path.{_≡_};
-ghost use Rattle.big_endian.specs.Written.{written};
-ghost use Rattle.gatemap_host.specs.SetPoint.{bytesOfValue, hostAnswer, hostNumber, hostBuffer};
-use big_endian::put_number;
+ghost use Rattle.gatemap_host.specs.SetPoint.{hostAnswer, hostNumber, hostBuffer};
 use control_point::refusal::Refusal;
-use evaluation::evaluation::Evaluation;
-use evaluation::evaluation::EvaluationAnswer;
 use float64::from_bits;
-use float64::to_bits;
 use map_file::run::file_set_point;
+use surface::evaluation::EvaluationAnswer;
+use value_bytes::write_value;
 
 // A position and its weight, as they are written.
 const VALUE_BYTES: usize = 32;
-
-fn write_value(out: &mut [u8], value: Evaluation)
-    ensures { λ _. ⌜ now (out .exit) ≡ written (now (out .entry)) 0 (bytesOfValue value) ⌝ }
-{
-    put_number(out, 0, to_bits(value.x));
-    put_number(out, 8, to_bits(value.y));
-    put_number(out, 16, to_bits(value.z));
-    put_number(out, 24, to_bits(value.weight));
-}
 
 // What the call finds, for a buffer of a length: a short one is refused before the file is looked at.
 fn host_answer(file: &[u8], s: u64, t: u64, room: usize) -> EvaluationAnswer

@@ -1,4 +1,2 @@
-pub mod Format
-pub mod FormatLaws
 pub mod Run
 pub mod RunLaws

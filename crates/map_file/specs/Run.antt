@@ -11,13 +11,13 @@ use Rattle.t_mesh.specs.Insertion.{addControlPoint}
 use Rattle.t_mesh.specs.declared.t_mesh.Position.{Position}
 use Rattle.t_mesh.specs.declared.t_mesh.Tmesh.{Tmesh}
 use Rattle.t_mesh.specs.declared.add.Added.{Added}
-use Rattle.evaluation.specs.Evaluation.{subsOf, setPoint}
-use Rattle.evaluation.specs.declared.evaluation.EvaluationAnswer.{EvaluationAnswer}
-use Rattle.evaluation.specs.declared.evaluation.EvaluationAnswer.the-variants.{Is, Refused as NotEvaluated}
-use Rattle.map_file.specs.Format.{borderAt, cornersAt, positionBytes, editsAt, positionAt, editsFrom, checkedFile}
-use Rattle.map_file.specs.declared.format.Edit.{Edit}
-use Rattle.map_file.specs.declared.format.FileCheck.{FileCheck}
-use Rattle.map_file.specs.declared.format.FileCheck.the-variants.{Valid, Refused}
+use Rattle.surface.specs.Evaluation.{subsOf, setPoint}
+use Rattle.surface.specs.declared.evaluation.EvaluationAnswer.{EvaluationAnswer}
+use Rattle.surface.specs.declared.evaluation.EvaluationAnswer.the-variants.{Is, Refused as NotEvaluated}
+use Rattle.map_format.specs.Format.{borderAt, cornersAt, positionBytes, editsAt, positionAt, editsFrom, checkedFile}
+use Rattle.map_format.specs.declared.format.Edit.{Edit}
+use Rattle.map_format.specs.declared.format.FileCheck.{FileCheck}
+use Rattle.map_format.specs.declared.format.FileCheck.the-variants.{Valid, Refused}
 
 -- ---- the map before the edits
 abbrev pub cornerOf : List ℕ → ℕ → Position

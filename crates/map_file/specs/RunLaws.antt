@@ -18,12 +18,12 @@ use Rattle.t_mesh.specs.Insertion.{insertIntoMesh, keptAfter, addControlPoint}
 use Rattle.t_mesh.specs.declared.t_mesh.Mesh.{Mesh}
 use Rattle.t_mesh.specs.declared.t_mesh.Tmesh.{Tmesh}
 use Rattle.t_mesh.specs.declared.add.InsertedMesh.{InsertedMesh}
-use Rattle.evaluation.specs.declared.evaluation.EvaluationAnswer.the-variants.{Refused as NotEvaluated}
-use Rattle.map_file.specs.Format.{editsAt, editBytes, editAt, editsFrom, checkedFile}
-use Rattle.map_file.specs.FormatLaws.{edit-after}
+use Rattle.surface.specs.declared.evaluation.EvaluationAnswer.the-variants.{Refused as NotEvaluated}
+use Rattle.map_format.specs.Format.{editsAt, editBytes, editAt, editsFrom, checkedFile}
+use Rattle.map_format.specs.FormatLaws.{edit-after}
 use Rattle.map_file.specs.Run.{freshMap, edited, afterEdits, editNumbers, fileMap, fileNumbers, setPointAt, checkedSetPoint, fileSetPoint}
-use Rattle.map_file.specs.declared.format.Edit.{Edit}
-use Rattle.map_file.specs.declared.format.FileCheck.the-variants.{Valid, Refused}
+use Rattle.map_format.specs.declared.format.Edit.{Edit}
+use Rattle.map_format.specs.declared.format.FileCheck.the-variants.{Valid, Refused}
 
 -- ---- an edit of a mesh
 abbrev pub meshEdited : Float → Mesh → Edit → InsertedMesh

@@ -1,4 +1,2 @@
-// The map file: its format, its reader, and the run of a file.
-pub mod format;
-pub mod reader;
+// The run of a map file.
 pub mod run;

@@ -5,14 +5,14 @@ use big_endian::after;
 use big_endian::byte_at;
 use control_point::refusal::Outcome;
 use control_point::sides::wide;
-use evaluation::evaluation::Evaluation;
-use evaluation::evaluation::EvaluationAnswer;
 use insertion::insertion::InsertAnswer;
 use ray::knots::KnotsAnswer;
 use store::store::Store;
 use stored_calls::points::both;
 use stored_calls::points::float_is_at;
 use stored_calls::points::store_is_right;
+use surface::evaluation::Evaluation;
+use surface::evaluation::EvaluationAnswer;
 use t_mesh::t_mesh::is_listed;
 
 // Whether a call answered what is stored, and how many bytes it takes.

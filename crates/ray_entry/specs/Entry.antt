@@ -15,9 +15,9 @@ use Rattle.control_point.specs.declared.sides.SideAnswer.the-variants.{Is as Is
 use Rattle.navigation.specs.declared.walk.Walk.{Walk}
 use Rattle.navigation.specs.declared.walk.Walk.the-variants.{Reached, Refused as NoWalk}
 use Rattle.float64.specs.Literals.{zeroLiteral}
-use Rattle.ray_entry.specs.Approach.{approachOf}
-use Rattle.ray_entry.specs.declared.approach.Approach.{Approach}
-use Rattle.ray_entry.specs.declared.approach.Approach.the-variants.{Aligned, Crossed, Refused as NoApproach}
+use Rattle.ray_approach.specs.Approach.{approachOf}
+use Rattle.ray_approach.specs.declared.approach.Approach.{Approach}
+use Rattle.ray_approach.specs.declared.approach.Approach.the-variants.{Aligned, Crossed, Refused as NoApproach}
 use Rattle.ray_entry.specs.declared.entry.Entry.{Entry}
 use Rattle.ray_entry.specs.declared.entry.Entry.the-variants.{Is, Refused}
 use Rattle.ray_entry.specs.declared.entry.Front.{Front}

@@ -1,3 +1,1 @@
-pub mod Approach
 pub mod Entry
-pub mod ApproachLaws

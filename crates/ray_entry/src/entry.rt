@@ -2,8 +2,6 @@
 ghost use mathlib.Core.Path.{_≡_};
 ghost use Rattle.control_point.specs.Sides.{lentSides};
 ghost use Rattle.ray_entry.specs.Entry.{onRay, inMarch, cornerWalk, faceWalk, openingEntry, pointEntry, overFace, aroundFace, marchEntry, entryOf};
-use crate::approach::Approach;
-use crate::approach::approach_ray;
 use control_point::refusal::Refusal;
 use control_point::sides::SideAnswer;
 use control_point::sides::made_side_at;
@@ -14,6 +12,8 @@ use control_point::t_mesh_control_point::is_opening;
 use control_point::t_mesh_direction::TmeshDirection;
 use navigation::walk::Walk;
 use navigation::walk::navigate;
+use ray_approach::approach::Approach;
+use ray_approach::approach::approach_ray;
 
 // Where a ray stands between two entries.
 pub struct Front {

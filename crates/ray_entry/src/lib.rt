@@ -1,3 +1,2 @@
 // One entry of a ray, and where the ray then stands.
-pub mod approach;
 pub mod entry;

@@ -1,4 +1,1 @@
-pub mod PutLaws
-pub mod TextLaws
-pub mod LinesLaws
 pub mod ReportLaws

@@ -13,10 +13,10 @@ use Rattle.t_mesh.specs.declared.t_mesh.Tmesh.{Tmesh}
 use Rattle.census.specs.Census.{hasLink, countsOf}
 use Rattle.census.specs.CensusLaws.{count-few}
 use Rattle.census.specs.declared.census.Counts.{Counts}
-use Rattle.map_file.specs.Format.{checkedFile}
-use Rattle.map_file.specs.declared.format.FileCheck.{FileCheck}
-use Rattle.report.specs.Put.{Put, Fits}
-use Rattle.report.specs.Text.{printedBelow}
+use Rattle.map_format.specs.Format.{checkedFile}
+use Rattle.map_format.specs.declared.format.FileCheck.{FileCheck}
+use Rattle.report_text.specs.Put.{Put, Fits}
+use Rattle.report_text.specs.Text.{printedBelow}
 use Rattle.report.specs.Report.{checkedReport, reportOf}
 use Rattle.report.specs.ReportFitsProof.{report-fits}
 

@@ -10,15 +10,15 @@ use lib.ListN.{length, length-append}
 use Rattle.control_point.specs.Refusal.{refusalNumber}
 use Rattle.store.specs.declared.store.Store.{Store}
 use Rattle.t_mesh.specs.declared.t_mesh.Tmesh.{Tmesh}
-use Rattle.evaluation.specs.declared.evaluation.EvaluationAnswer.{EvaluationAnswer}
-use Rattle.evaluation.specs.declared.evaluation.EvaluationAnswer.the-variants.{Is, Refused as NotEvaluated}
+use Rattle.surface.specs.declared.evaluation.EvaluationAnswer.{EvaluationAnswer}
+use Rattle.surface.specs.declared.evaluation.EvaluationAnswer.the-variants.{Is, Refused as NotEvaluated}
 use Rattle.census.specs.Census.{isOpen}
 use Rattle.census.specs.declared.census.Counts.{Counts}
-use Rattle.map_file.specs.Format.{editsAt, editBytes, editsFrom}
+use Rattle.map_format.specs.Format.{editsAt, editBytes, editsFrom}
 use Rattle.map_file.specs.Run.{edited, freshMap, editNumbers, fileNumbers}
-use Rattle.map_file.specs.declared.format.Edit.{Edit}
-use Rattle.report.specs.Text.{editWord, openWord, newline, decimal, numberText, bitsText, refusedText}
-use Rattle.report.specs.Report.{editLine, editLines, countsLine, openLine, openLines, midText, midLine}
+use Rattle.map_format.specs.declared.format.Edit.{Edit}
+use Rattle.report_text.specs.Text.{editWord, openWord, newline, decimal, numberText, bitsText, refusedText}
+use Rattle.report_lines.specs.Lines.{editLine, editLines, countsLine, openLine, openLines, midText, midLine}
 
 -- ---- numbers
 decimal-by : (n : ℕ) (a b c : Bool) → ltb n 10 ≡ a → ltb n 100 ≡ b → ltb n 1000 ≡ c → length (decimal n) ≤ 4

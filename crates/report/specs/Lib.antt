@@ -1,5 +1,3 @@
-pub mod Text
-pub mod Put
 pub mod Report
 pub mod Theorems
 pub mod LengthLaws

@@ -9,14 +9,15 @@ use Rattle.control_point.specs.Small.{millionth}
 use Rattle.t_mesh.specs.Tmesh.{storeOf}
 use Rattle.t_mesh.specs.declared.t_mesh.Tmesh.{Tmesh}
 use Rattle.census.specs.Census.{countsOf}
-use Rattle.map_file.specs.Format.{checkedFile}
-use Rattle.map_file.specs.FormatLaws.{valid-tells}
+use Rattle.map_format.specs.Format.{checkedFile}
+use Rattle.map_format.specs.FormatLaws.{valid-tells}
 use Rattle.map_file.specs.Run.{fileMap, fileNumbers, setPointAt}
-use Rattle.map_file.specs.declared.format.FileCheck.{FileCheck}
-use Rattle.map_file.specs.declared.format.FileCheck.the-variants.{Valid, Refused}
-use Rattle.report.specs.Put.{mostBytes}
-use Rattle.report.specs.Text.{newline, refusedText}
-use Rattle.report.specs.Report.{countsLine, editLines, openLines, midLine, half, mapReport, checkedReport, reportOf}
+use Rattle.map_format.specs.declared.format.FileCheck.{FileCheck}
+use Rattle.map_format.specs.declared.format.FileCheck.the-variants.{Valid, Refused}
+use Rattle.report_text.specs.Put.{mostBytes}
+use Rattle.report_text.specs.Text.{newline, refusedText}
+use Rattle.report_lines.specs.Lines.{countsLine, editLines, openLines, midLine}
+use Rattle.report.specs.Report.{half, mapReport, checkedReport, reportOf}
 use Rattle.report.specs.LengthLaws.{edit-lines-few, counts-line-few, open-lines-few, mid-line-few, refused-few, file-numbers-length}
 use Rattle.report.specs.Theorems.{ReportFits}
 

@@ -2,7 +2,7 @@
 use Prim.Native.Nat.{ℕ, _≤_}
 use mathlib.Core.List.{List}
 use lib.ListN.{length}
-use Rattle.report.specs.Put.{mostBytes}
+use Rattle.report_text.specs.Put.{mostBytes}
 use Rattle.report.specs.Report.{reportOf}
 
 -- No file's report is longer than 32,768 bytes: a buffer of that length has room for each.

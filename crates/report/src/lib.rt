@@ -3,27 +3,24 @@ ghost use mathlib.Core.Path.{_≡_};
 ghost use Prim.Native.Nat.{_≤_};
 ghost use lib.ListN.{length};
 ghost use Rattle.big_endian.specs.Written.{written};
-ghost use Rattle.map_file.specs.Format.{mostEdits};
-ghost use Rattle.report.specs.Put.{Put, Fits};
+ghost use Rattle.map_format.specs.Format.{mostEdits};
+ghost use Rattle.report_text.specs.Put.{Put, Fits};
 ghost use Rattle.report.specs.Report.{mapReport, fileRefused, validReport, reportOf};
-use crate::lines::put_counts_line;
-use crate::lines::put_edit_lines;
-use crate::lines::put_mid_line;
-use crate::lines::put_open_lines;
-use crate::text::put_refused;
-use crate::text::put_text;
 use census::counts::counts;
 use control_point::refusal::Refusal;
-use map_file::format::FileCheck;
-use map_file::format::MOST_EDITS;
-use map_file::format::validate;
 use map_file::run::run_edits;
 use map_file::run::set_point_at;
+use map_format::format::FileCheck;
+use map_format::format::MOST_EDITS;
+use map_format::format::validate;
+use report_lines::lines::put_counts_line;
+use report_lines::lines::put_edit_lines;
+use report_lines::lines::put_mid_line;
+use report_lines::lines::put_open_lines;
+use report_text::text::put_refused;
+use report_text::text::put_text;
 use t_mesh::t_mesh::Tmesh;
 use t_mesh::t_mesh::store_of;
-
-mod lines;
-mod text;
 
 // What is printed of the map that a run leaves.
 fn put_map_report(out: &mut [u8], at: usize, map: Tmesh) -> usize

@@ -8,8 +8,8 @@ use lib.Dec.{T, eqb, eqb→eq}
 use lib.Ieee.{Float}
 use Rattle.control_point.specs.Refusal.{refusalNumber}
 use Rattle.control_point.specs.declared.refusal.Refusal.{Refusal}
-use Rattle.evaluation.specs.Evaluation.{subsOf}
-use Rattle.evaluation.specs.declared.evaluation.EvaluationAnswer.the-variants.{Refused as NoValue}
+use Rattle.surface.specs.Evaluation.{subsOf}
+use Rattle.surface.specs.declared.evaluation.EvaluationAnswer.the-variants.{Refused as NoValue}
 use Rattle.mirror.specs.BoolLaws.{or-case}
 use Rattle.store.specs.Store.{storeSides}
 use Rattle.t_mesh.specs.Tmesh.{storeOf, newTmesh}

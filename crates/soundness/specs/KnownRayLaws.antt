@@ -22,12 +22,12 @@ use Rattle.store.specs.declared.store.Store.{Store}
 use Rattle.mirror.specs.BoolLaws.{cond-case}
 use Rattle.mirror.specs.Mirror.{Mirrored, Sound}
 use Rattle.float64.specs.Literals.{zeroLiteral}
-use Rattle.ray_entry.specs.Approach.{approachRound, approachIn, approachOf}
+use Rattle.ray_approach.specs.Approach.{approachRound, approachIn, approachOf}
 use Rattle.ray_entry.specs.Entry.{onRay, afterWalk, cornerWalk, faceWalk, sideEntry, pointEntry, aroundFace, afterApproach, marchEntry, entryOf}
 use Rattle.ray.specs.Knots.{afterRay, knotsAt, pointKnotVectors}
 use Rattle.ray.specs.Ray.{Ray, entries, refused, before, afterEntry, rayFrom, rayOf}
-use Rattle.ray_entry.specs.declared.approach.Approach.{Approach}
-use Rattle.ray_entry.specs.declared.approach.Approach.the-variants.{Aligned, Crossed, Refused as NoApproach}
+use Rattle.ray_approach.specs.declared.approach.Approach.{Approach}
+use Rattle.ray_approach.specs.declared.approach.Approach.the-variants.{Aligned, Crossed, Refused as NoApproach}
 use Rattle.ray_entry.specs.declared.entry.Entry.{Entry}
 use Rattle.ray_entry.specs.declared.entry.Entry.the-variants.{Is, Refused}
 use Rattle.ray_entry.specs.declared.entry.Front.{Front}

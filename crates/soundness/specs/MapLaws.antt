@@ -26,11 +26,11 @@ use Rattle.t_mesh.specs.Tmesh.{meshStore, storeOf, isListed}
 use Rattle.t_mesh.specs.declared.t_mesh.Mesh.{Mesh}
 use Rattle.t_mesh.specs.declared.t_mesh.Position.{Position}
 use Rattle.t_mesh.specs.declared.t_mesh.Tmesh.{Tmesh}
-use Rattle.evaluation.specs.Evaluation.{valueOf, answerBy, withKnots, subsOf}
+use Rattle.surface.specs.Evaluation.{valueOf, answerBy, withKnots, subsOf}
 use Rattle.knot_vectors.specs.Knots.{AllKnots, all, none, onAll, inRow, withRow, rowsFrom, allKnots, keeping, generateKnotVectors}
-use Rattle.evaluation.specs.declared.evaluation.Evaluation.{Evaluation}
-use Rattle.evaluation.specs.declared.evaluation.EvaluationAnswer.{EvaluationAnswer}
-use Rattle.evaluation.specs.declared.evaluation.EvaluationAnswer.the-variants.{Is, Refused as NoValue}
+use Rattle.surface.specs.declared.evaluation.Evaluation.{Evaluation}
+use Rattle.surface.specs.declared.evaluation.EvaluationAnswer.{EvaluationAnswer}
+use Rattle.surface.specs.declared.evaluation.EvaluationAnswer.the-variants.{Is, Refused as NoValue}
 use Rattle.knot_vectors.specs.declared.knots.Generated.{Generated}
 use Rattle.calls.specs.Calls.{Call, insertion, evaluation, answerTo, mapAfter}
 use Rattle.soundness.specs.InsertionLaws.{KnownAnswer, Grown, Inserts, inserts}

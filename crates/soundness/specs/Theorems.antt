@@ -31,9 +31,9 @@ use Rattle.t_mesh.specs.Insertion.{isDone, isRefused, addControlPoint}
 use Rattle.t_mesh.specs.Tmesh.{storeOf, isListed, newTmesh}
 use Rattle.t_mesh.specs.declared.t_mesh.Position.{Position}
 use Rattle.t_mesh.specs.declared.t_mesh.Tmesh.{Tmesh}
-use Rattle.evaluation.specs.Evaluation.{subsOf}
+use Rattle.surface.specs.Evaluation.{subsOf}
 use Rattle.knot_vectors.specs.Knots.{generateKnotVectors}
-use Rattle.evaluation.specs.declared.evaluation.EvaluationAnswer.the-variants.{Refused as NoValue}
+use Rattle.surface.specs.declared.evaluation.EvaluationAnswer.the-variants.{Refused as NoValue}
 use Rattle.calls.specs.Calls.{Call, Answer, inserted, evaluated, answerTo, mapAfter}
 
 -- ---- the maps

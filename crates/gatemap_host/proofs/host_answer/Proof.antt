@@ -1,4 +1,5 @@
 -- `host_answer` meets its contract: the length decides between 16 and what the file answers.
+use mathlib.Core.Path.{_∙_}
 use borrow.Author.Needs.{needs}
 use Rattle.gatemap_host.proofs.Laws.{answer-short, answer-of-file}
 use Rattle.gatemap_host.proofs.host_answer.Statement.{statement}
@@ -19,7 +20,8 @@ file-set-point-requires c κs = search needs
 returns-2 : tie.Need-returns-2
 returns-2 c =
     let args = c .before .before .before .before .before .args in
-    cc (answer-of-file (args .file .now) (args .s) (args .t) (args .room) (c .before .before .before .if1 .left))
+    c .file-set-point .ensures
+    ∙ rw (c .before .from-bits2 .ensures, c .before .before .from-bits .ensures) (answer-of-file (args .file .now) (args .s) (args .t) (args .room) (c .before .before .before .if1 .left))
 
 pub host-answer-spec : {M : Type 1} → statement M
 host-answer-spec =

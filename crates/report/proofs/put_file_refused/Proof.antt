@@ -3,8 +3,8 @@ use mathlib.Core.Path.{ap}
 use native.Mathlib.Omega.{arith}
 use lib.ListN.{length-append}
 use borrow.Author.Needs.{needs}
-use Rattle.report.specs.Text.{refusedText}
-use Rattle.report.proofs.PutLaws.{put-then, put-as}
+use Rattle.report_text.specs.Text.{refusedText}
+use Rattle.report_text.proofs.PutLaws.{put-then, put-as}
 use Rattle.report.proofs.put_file_refused.Statement.{statement}
 use Rattle.report.proofs.put_file_refused.Tie as tie
 

@@ -8,9 +8,10 @@ use Rattle.store.specs.declared.store.Store.{Store}
 use Rattle.t_mesh.specs.Tmesh.{storeOf}
 use Rattle.census.specs.Census.{countsOf}
 use Rattle.map_file.specs.Run.{setPointAt}
-use Rattle.report.specs.Put.{Put, Fits}
-use Rattle.report.specs.Report.{countsLine, openLines, midLine, half}
-use Rattle.report.proofs.PutLaws.{put-then, put-as, fits-first, fits-then, fits-as}
+use Rattle.report_text.specs.Put.{Put, Fits}
+use Rattle.report_lines.specs.Lines.{countsLine, openLines, midLine}
+use Rattle.report.specs.Report.{half}
+use Rattle.report_text.proofs.PutLaws.{put-then, put-as, fits-first, fits-then, fits-as}
 use Rattle.report.proofs.ReportLaws.{counted-few}
 use Rattle.report.proofs.put_map_report.Statement.{statement}
 use Rattle.report.proofs.put_map_report.Tie as tie

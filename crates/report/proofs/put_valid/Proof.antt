@@ -7,10 +7,11 @@ use lib.ListN.{length, take}
 use borrow.Author.Needs.{needs}
 use Rattle.control_point.specs.Small.{millionth}
 use Rattle.map_file.specs.Run.{fileMap, fileNumbers}
-use Rattle.report.specs.Put.{Put}
-use Rattle.report.specs.Report.{editLines, mapReport}
+use Rattle.report_text.specs.Put.{Put}
+use Rattle.report_lines.specs.Lines.{editLines}
+use Rattle.report.specs.Report.{mapReport}
 use Rattle.report.specs.LengthLaws.{file-numbers-length}
-use Rattle.report.proofs.PutLaws.{put-then, put-as, fits-first, fits-then, fits-as}
+use Rattle.report_text.proofs.PutLaws.{put-then, put-as, fits-first, fits-then, fits-as}
 use Rattle.report.proofs.ReportLaws.{zeros-room, noted}
 use Rattle.report.proofs.put_valid.Statement.{statement}
 use Rattle.report.proofs.put_valid.Tie as tie

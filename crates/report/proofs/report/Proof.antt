@@ -1,7 +1,7 @@
 -- `report` meets its contract: what is put is the report by the file's check, and every report fits.
 use mathlib.Core.Path.{sym, _∙_}
 use borrow.Author.Needs.{needs}
-use Rattle.map_file.specs.FormatLaws.{valid-tells}
+use Rattle.map_format.specs.FormatLaws.{valid-tells}
 use Rattle.report.proofs.ReportLaws.{checked-fits, reported}
 use Rattle.report.proofs.report.Statement.{statement}
 use Rattle.report.proofs.report.Tie as tie

@@ -1,7 +1,7 @@
 -- `set_point` meets its contract: its test is the definition's.
 use borrow.Author.Needs.{needs}
 use mathlib.Core.Path.{_∙_, sym}
-use Rattle.evaluation.specs.Evaluation.{setPoint}
+use Rattle.surface.specs.Evaluation.{setPoint}
 use Rattle.evaluation.proofs.evaluation.set_point.Statement.{statement}
 use Rattle.evaluation.proofs.evaluation.set_point.Tie as tie
 

@@ -6,7 +6,7 @@ use mathlib.Core.Path.{_≡_}
 use mathlib.Core.Logic.{⊎-elim}
 use native.Mathlib.Omega.{arith}
 use Rattle.control_point.specs.Small.{millionth}
-use Rattle.evaluation.specs.EvaluationLaws.{Sums, sums-start, sums-end, sums-added, sums-passed, ready-kept, ready-built, evaluated-ready}
+use Rattle.surface.specs.EvaluationLaws.{Sums, sums-start, sums-end, sums-added, sums-passed, ready-kept, ready-built, evaluated-ready}
 use Rattle.evaluation.proofs.evaluation.subs.Statement.{statement}
 use Rattle.evaluation.proofs.evaluation.subs.Tie as tie
 

@@ -1,7 +1,7 @@
 -- `set_point_at` meets its contract: it is the set-point of what `subs` answers.
 use borrow.Author.Needs.{needs}
 use mathlib.Core.Path.{_∙_, ap}
-use Rattle.evaluation.specs.declared.evaluation.Evaluated.{Evaluated}
+use Rattle.surface.specs.declared.evaluation.Evaluated.{Evaluated}
 use Rattle.map_file.specs.Run.{asSetPoint}
 use Rattle.map_file.proofs.run.set_point_at.Statement.{statement}
 use Rattle.map_file.proofs.run.set_point_at.Tie as tie

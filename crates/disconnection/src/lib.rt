@@ -1,0 +1,2 @@
+// Opening a connection of a store.
+pub mod remove;

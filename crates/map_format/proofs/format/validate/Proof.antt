@@ -1,0 +1,61 @@
+-- `validate` meets its contract: the tests are made in the order of the definition, and a right length keeps the count small.
+use mathlib.Core.Path.{_≡_, sym, _∙_}
+use mathlib.Core.Bool.{true}
+use native.Mathlib.Omega.{arith}
+use lib.Dec.{eqb}
+use borrow.Author.Needs.{needs}
+use borrow.Author.Tests.{eq-eqb, ne-eqb, not-true, not-false}
+use Rattle.big_endian.specs.BigEndian.{byteAt}
+use Rattle.map_format.specs.Format.{versionAt, theVersion, lengthRight, checkedFile}
+use Rattle.map_format.specs.FormatLaws.{length-tells}
+use Rattle.map_format.proofs.format.validate.Statement.{statement}
+use Rattle.map_format.proofs.format.validate.Tie as tie
+
+length-right-requires : tie.Need-length-right-requires
+length-right-requires c κs = search needs
+
+returns : tie.Need-returns
+unfolding checkedFile
+returns c = rw (sym (c .before .length-right .ensures) ∙ not-true _ (c .if1 .taken))
+
+-- past the test of the length
+long : (c : tie.Else1) → lengthRight (c .before .before .before .args .file .now) ≡ true
+long c = sym (c .before .length-right .ensures) ∙ not-false _ (c .if1 .left)
+
+byte-at-requires : tie.Need-byte-at-requires
+byte-at-requires c κs = search needs
+
+returns-2 : tie.Need-returns-2
+unfolding checkedFile
+returns-2 c = rw (long (c .before .before), ne-eqb _ theVersion (λ same. c .if2 .taken (c .before .byte-at .ensures ∙ same)))
+
+-- past the test of the version
+versioned : (c : tie.Else2) → eqb (byteAt (c .before .before .before .before .before .args .file .now) versionAt) theVersion ≡ true
+versioned c = eq-eqb _ theVersion (sym (c .before .byte-at .ensures) ∙ c .if2 .left)
+
+sub-count : tie.Need-sub-count
+sub-count c = omega (arith, length-tells _ (long (c .before .before)) .0)
+
+headings-right-requires : tie.Need-headings-right-requires
+headings-right-requires c κs = length-tells _ (long (c .before .before)) .2
+
+returns-3 : tie.Need-returns-3
+unfolding checkedFile
+returns-3 c = rw (long (c .before .before .before .before), versioned (c .before .before), sym (c .before .headings-right .ensures) ∙ c .if3 .taken)
+
+returns-4 : tie.Need-returns-4
+unfolding checkedFile
+returns-4 c = rw (long (c .before .before .before .before), versioned (c .before .before), sym (c .before .headings-right .ensures) ∙ c .if3 .left)
+
+pub validate-spec : {M : Type 1} → statement M
+validate-spec =
+    tie.close
+    (tie.spec
+    length-right-requires
+    returns
+    byte-at-requires
+    returns-2
+    sub-count
+    headings-right-requires
+    returns-3
+    returns-4)

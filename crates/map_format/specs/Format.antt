@@ -1,0 +1,104 @@
+-- The map file: what its bytes say, and which files are refused. All numbers are big-endian, floats are their bits.
+--
+--   at    bytes  what
+--   0     4      the count of all bytes that follow
+--   4     1      the version, 1
+--   5     8      the border weight
+--   13    4 × 24 the corners, anticlockwise from bottom left, three floats each
+--   109   n × 34 up to 1,000 edits
+--
+-- An edit: 1 byte the point, 1 byte the direction, 8 bytes the ratio, 24 bytes the position.
+use Prim.Native.Nat.{ℕ, zero, suc, _+_, _-_, _/_, _%_}
+use mathlib.Core.Bool.{Bool, true, cond, _&&_}
+use mathlib.Core.List.{List, [], _∷_}
+use lib.Dec.{ltb, leb, eqb}
+use lib.ListN.{length}
+use Rattle.big_endian.specs.BigEndian.{byteAt, numberAt, floatAt}
+use Rattle.control_point.specs.Direction.{directionNumbered}
+use Rattle.control_point.specs.declared.refusal.Refusal.the-variants.{Length, Version, Heading}
+use Rattle.t_mesh.specs.declared.t_mesh.Position.{Position}
+use Rattle.map_format.specs.declared.format.Edit.{Edit}
+use Rattle.map_format.specs.declared.format.FileCheck.{FileCheck}
+use Rattle.map_format.specs.declared.format.FileCheck.the-variants.{Valid, Refused}
+
+-- ---- sizes and places
+abbrev pub lengthBytes : ℕ
+lengthBytes = 4
+
+abbrev pub versionAt : ℕ
+versionAt = 4
+
+abbrev pub theVersion : ℕ
+theVersion = 1
+
+abbrev pub borderAt : ℕ
+borderAt = 5
+
+abbrev pub cornersAt : ℕ
+cornersAt = 13
+
+abbrev pub positionBytes : ℕ
+positionBytes = 24
+
+abbrev pub editsAt : ℕ
+editsAt = 109
+
+abbrev pub editBytes : ℕ
+editBytes = 34
+
+abbrev pub mostEdits : ℕ
+mostEdits = 1000
+
+-- within an edit
+abbrev pub directionIn : ℕ
+directionIn = 1
+
+abbrev pub ratioIn : ℕ
+ratioIn = 2
+
+abbrev pub positionIn : ℕ
+positionIn = 10
+
+-- ---- what stands at a place
+abbrev pub positionAt : List ℕ → ℕ → Position
+positionAt bytes at = record { x = floatAt bytes at; y = floatAt bytes (at + 8); z = floatAt bytes (at + 16) }
+
+abbrev pub editAt : List ℕ → ℕ → Edit
+editAt bytes at =
+    record {
+      point = byteAt bytes at;
+      direction = directionNumbered (byteAt bytes (at + directionIn));
+      ratio = floatAt bytes (at + ratioIn);
+      position = positionAt bytes (at + positionIn);
+    }
+
+-- so many edits, from a place on
+unfoldable pub editsFrom : ℕ → List ℕ → ℕ → List Edit
+editsFrom zero bytes at = []
+editsFrom (suc count) bytes at = editAt bytes at ∷ editsFrom count bytes (at + editBytes)
+
+-- ---- which files are refused
+-- the edits that a file of this length has room for
+abbrev pub editCount : List ℕ → ℕ
+editCount bytes = (length bytes - editsAt) / editBytes
+
+-- the count is that of the bytes that follow it, and these are the head and 0 to 1,000 whole edits
+unfoldable pub lengthRight : List ℕ → Bool
+lengthRight bytes =
+    leb editsAt (length bytes)
+    && (eqb (lengthBytes + numberAt 4 bytes 0) (length bytes)
+    && (eqb ((length bytes - editsAt) % editBytes) 0 && leb (editCount bytes) mostEdits))
+
+-- every direction is one
+unfoldable pub headingsRight : ℕ → List ℕ → ℕ → Bool
+headingsRight zero bytes at = true
+headingsRight (suc count) bytes at = ltb (byteAt bytes (at + directionIn)) 4 && headingsRight count bytes (at + editBytes)
+
+-- 12, 13, 14 in order; else the count of edits
+unfoldable pub checkedFile : List ℕ → FileCheck
+checkedFile bytes =
+    cond (lengthRight bytes)
+    (cond (eqb (byteAt bytes versionAt) theVersion)
+    (cond (headingsRight (editCount bytes) bytes editsAt) (Valid (editCount bytes)) (Refused Heading))
+    (Refused Version))
+    (Refused Length)

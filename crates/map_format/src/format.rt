@@ -1,0 +1,132 @@
+// What the bytes of a map file say, and which files are refused. The places and sizes are those of docs/FORMATS.md.
+ghost use mathlib.Core.Path.{_≡_};
+ghost use Prim.Native.Nat.{_≤_};
+ghost use Rattle.map_format.specs.Format.{editsAt, mostEdits, positionAt, editAt, lengthRight, headingsRight, checkedFile};
+use big_endian::after;
+use big_endian::byte_at;
+use big_endian::float_at;
+use big_endian::length_at;
+use control_point::refusal::Refusal;
+use control_point::t_mesh_direction::TmeshDirection;
+use t_mesh::t_mesh::Position;
+
+const LENGTH_BYTES: usize = 4;
+
+const VERSION_AT: usize = 4;
+
+const THE_VERSION: u8 = 1;
+
+pub const BORDER_AT: usize = 5;
+
+pub const CORNERS_AT: usize = 13;
+
+pub const POSITION_BYTES: usize = 24;
+
+pub const EDITS_AT: usize = 109;
+
+pub const EDIT_BYTES: usize = 34;
+
+pub const MOST_EDITS: usize = 1000;
+
+// Within an edit.
+const DIRECTION_IN: usize = 1;
+
+const RATIO_IN: usize = 2;
+
+const POSITION_IN: usize = 10;
+
+const DIRECTIONS: u8 = 4;
+
+pub struct Edit {
+    pub point: u8,
+    pub direction: TmeshDirection,
+    pub ratio: f64,
+    pub position: Position,
+}
+
+pub enum FileCheck {
+    // The count of edits.
+    Valid(usize),
+    Refused(Refusal),
+}
+
+// The position at a place.
+pub fn position_at(bytes: &[u8], at: usize) -> Position
+    ensures { λ r. ⌜ r ≡ positionAt (now (bytes .entry)) at ⌝ }
+{
+    let place = after(bytes, at);
+    let x = float_at(place, 0);
+    let y = float_at(place, 8);
+    let z = float_at(place, 16);
+    Position { x, y, z }
+}
+
+// The edit at a place.
+pub fn edit_at(bytes: &[u8], at: usize) -> Edit
+    ensures { λ r. ⌜ r ≡ editAt (now (bytes .entry)) at ⌝ }
+{
+    let place = after(bytes, at);
+    let point = byte_at(place, 0);
+    let direction = TmeshDirection::numbered(byte_at(place, DIRECTION_IN));
+    let ratio = float_at(place, RATIO_IN);
+    let position = position_at(place, POSITION_IN);
+    Edit {
+        point,
+        direction,
+        ratio,
+        position,
+    }
+}
+
+// Whether the count at the start is that of the bytes that follow, and these are the head and up to 1,000 whole edits.
+fn length_right(bytes: &[u8]) -> bool
+    ensures { λ r. ⌜ r ≡ lengthRight (now (bytes .entry)) ⌝ }
+{
+    let length = bytes.len();
+    if length < EDITS_AT {
+        return false;
+    }
+    if LENGTH_BYTES + length_at(bytes, 0) != length {
+        return false;
+    }
+    let edits = length - EDITS_AT;
+    if edits % EDIT_BYTES != 0 {
+        return false;
+    }
+    edits / EDIT_BYTES <= MOST_EDITS
+}
+
+// Whether the direction of each of so many edits is one.
+fn headings_right(bytes: &[u8], count: usize) -> bool
+    requires { ⌜ count ≤ mostEdits ⌝ }
+    ensures { λ r. ⌜ r ≡ headingsRight count (now (bytes .entry)) editsAt ⌝ }
+{
+    let mut at = EDITS_AT;
+    let mut left = count;
+    while 0 < left {
+        if DIRECTIONS <= byte_at(bytes, at + DIRECTION_IN) {
+            return false;
+        }
+        at += EDIT_BYTES;
+        left -= 1;
+    }
+    true
+}
+
+// A file's count of edits, or why it is refused.
+pub fn validate(file: &[u8]) -> FileCheck
+    ensures { λ r. ⌜ r ≡ checkedFile (now (file .entry)) ⌝ }
+{
+    if !length_right(file) {
+        return FileCheck::Refused(Refusal::Length);
+    }
+    if byte_at(file, VERSION_AT) != THE_VERSION {
+        return FileCheck::Refused(Refusal::Version);
+    }
+    let count = (file.len() - EDITS_AT) / EDIT_BYTES;
+    if headings_right(file, count) {
+        FileCheck::Valid(count)
+    } else {
+        FileCheck::Refused(Refusal::Heading)
+    }
+}

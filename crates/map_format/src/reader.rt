@@ -1,0 +1,47 @@
+// The reader of a file's edits: the lent bytes and a cursor.
+ghost use mathlib.Core.Path.{_≡_};
+ghost use Rattle.map_format.specs.Format.{editsAt, editAt};
+use crate::format::EDITS_AT;
+use crate::format::Edit;
+use crate::format::edit_at;
+
+pub struct MapReader<'a> {
+    pub bytes: &'a [u8],
+    pub at: usize,
+}
+
+impl<'a> MapReader<'a> {
+    // At the first edit.
+    pub fn new(bytes: &'a [u8]) -> MapReader<'a>
+        ensures { λ r. ⌜ (r .bytes ≡ bytes .entry) × (r .at ≡ editsAt) ⌝ }
+    {
+        MapReader {
+            bytes,
+            at: EDITS_AT,
+        }
+    }
+
+    // At another place of the same bytes.
+    pub fn moved(self, at: usize) -> MapReader<'a>
+        ensures { λ r. ⌜ (r .bytes ≡ self .entry .bytes) × (r .at ≡ at) ⌝ }
+    {
+        MapReader {
+            bytes: self.bytes,
+            at,
+        }
+    }
+
+    // The edit at the cursor.
+    pub fn edit_here(self) -> Edit
+        ensures { λ r. ⌜ r ≡ editAt (now (self .entry .bytes)) (self .entry .at) ⌝ }
+    {
+        edit_at(self.bytes, self.at)
+    }
+}
+
+// The edit at a place of a file.
+pub fn edit_from(file: &[u8], at: usize) -> Edit
+    ensures { λ r. ⌜ r ≡ editAt (now (file .entry)) at ⌝ }
+{
+    MapReader::new(file).moved(at).edit_here()
+}

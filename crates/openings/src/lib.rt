@@ -1,0 +1,2 @@
+// The openings of a store, listed.
+pub mod openings;

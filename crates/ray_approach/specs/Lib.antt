@@ -1,0 +1,2 @@
+pub mod Approach
+pub mod ApproachLaws

@@ -1,0 +1,2 @@
+// The approach of a march to its ray.
+pub mod approach;

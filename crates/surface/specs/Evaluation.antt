@@ -1,0 +1,115 @@
+-- Evaluation of a map at (s, t) (`subs`). Knots are built only if none are kept. A point's weight is the product of its two basis
+-- functions; the answer is the sum of position × weight over the sum of the weights, axis by axis, each sum from +0.0 over the listed
+-- points in the order of their numbers, every product, quotient and sum rounding once; and beside it the sum of the weights.
+use Prim.Native.Nat.{ℕ, zero, suc, _+_}
+use mathlib.Core.Bool.{Bool, true, false, cond, _&&_}
+use mathlib.Core.List.{List, []}
+use lib.Ieee.{Float, nan, inf, binary64, add, mul, div, lt}
+use lib.ListN.{getD}
+use Rattle.float64.specs.Literals.{zeroLiteral}
+use Rattle.basis.specs.Binary64.{binary64Arithmetic, knots}
+use Rattle.basis.specs.Formula.{formula}
+use Rattle.control_point.specs.Refusal.{refusalNumber}
+use Rattle.control_point.specs.declared.refusal.Outcome.{Outcome}
+use Rattle.control_point.specs.declared.refusal.Outcome.the-variants.{Done, Refused as NotBuilt}
+use Rattle.control_point.specs.declared.refusal.Refusal.the-variants.{NoWeight}
+use Rattle.ray.specs.declared.knots.PointKnots.{PointKnots}
+use Rattle.t_mesh.specs.Tmesh.{Axis, X, Y, Z, coordinate, isListed}
+use Rattle.t_mesh.specs.declared.t_mesh.Position.{Position}
+use Rattle.t_mesh.specs.declared.t_mesh.Tmesh.{Tmesh}
+use Rattle.knot_vectors.specs.Knots.{generateKnotVectors}
+use Rattle.knot_vectors.specs.declared.knots.Generated.{Generated}
+use Rattle.surface.specs.declared.evaluation.Evaluation.{Evaluation}
+use Rattle.surface.specs.declared.evaluation.EvaluationAnswer.{EvaluationAnswer}
+use Rattle.surface.specs.declared.evaluation.EvaluationAnswer.the-variants.{Is, Refused}
+use Rattle.surface.specs.declared.evaluation.Evaluated.{Evaluated}
+use Rattle.surface.specs.declared.evaluation.Share.{Share}
+
+-- ---- the answer
+-- its number
+abbrev pub evaluationNumber : EvaluationAnswer → ℕ
+evaluationNumber (Is value) = 0
+evaluationNumber (Refused refusal) = refusalNumber refusal
+
+-- an evaluation's position on an axis
+abbrev pub onAxis : Axis → Evaluation → Float
+onAxis X value = value .x
+onAxis Y value = value .y
+onAxis Z value = value .z
+
+-- ---- a point's part
+-- what an element past the end is taken for; no definition looks there
+abbrev pub noKnots : PointKnots
+noKnots = record { s = []; t = [] }
+
+abbrev pub noPosition : Position
+noPosition = record { x = nan; y = nan; z = nan }
+
+abbrev pub knotsOf : Tmesh → ℕ → PointKnots
+knotsOf map n = getD (map .knots) n noKnots
+
+abbrev pub positionOf : Tmesh → ℕ → Position
+positionOf map n = getD (map .mesh .positions) n noPosition
+
+-- the weight at (s, t) of a point's knots, and of the point
+abbrev pub weightBy : PointKnots → Float → Float → Float
+weightBy own s t = mul binary64 (formula binary64Arithmetic s (knots (own .s))) (formula binary64Arithmetic t (knots (own .t)))
+
+abbrev pub weightOf : Tmesh → Float → Float → ℕ → Float
+weightOf map s t n = weightBy (knotsOf map n) s t
+
+-- its coordinate on an axis times its weight
+abbrev pub shareOf : Axis → Tmesh → Float → Float → ℕ → Float
+shareOf axis map s t n = mul binary64 (coordinate axis (positionOf map n)) (weightOf map s t n)
+
+-- all of a point's part, as code holds it
+abbrev pub shareBy : PointKnots → Position → Float → Float → Share
+shareBy own position s t =
+    record {
+      x = mul binary64 (position .x) (weightBy own s t);
+      y = mul binary64 (position .y) (weightBy own s t);
+      z = mul binary64 (position .z) (weightBy own s t);
+      weight = weightBy own s t;
+    }
+
+-- ---- the sums
+-- a sum with the parts of the listed points among so many, from n on, added in order
+unfoldable pub sumFrom : Tmesh → (ℕ → Float) → ℕ → ℕ → Float → Float
+sumFrom map part zero n sum = sum
+sumFrom map part (suc left) n sum = sumFrom map part left (n + 1) (cond (isListed map n) (add binary64 sum (part n)) sum)
+
+abbrev pub sumOf : Tmesh → (ℕ → Float) → Float
+sumOf map part = sumFrom map part 128 0 zeroLiteral
+
+abbrev pub totalWeight : Tmesh → Float → Float → Float
+totalWeight map s t = sumOf map (weightOf map s t)
+
+abbrev pub meanOn : Axis → Tmesh → Float → Float → Float
+meanOn axis map s t = div binary64 (sumOf map (shareOf axis map s t)) (totalWeight map s t)
+
+-- the value by the knots kept
+unfoldable pub valueOf : Tmesh → Float → Float → Evaluation
+valueOf map s t = record { x = meanOn X map s t; y = meanOn Y map s t; z = meanOn Z map s t; weight = totalWeight map s t }
+
+-- ---- `subs`
+-- the value, or why there are no knots
+abbrev pub answerBy : Outcome → Evaluation → EvaluationAnswer
+answerBy Done value = Is value
+answerBy (NotBuilt refusal) value = Refused refusal
+
+abbrev pub evaluatedBy : Outcome → Tmesh → Float → Float → Evaluated
+evaluatedBy outcome map s t = record { answer = answerBy outcome (valueOf map s t); map = map }
+
+-- with knots kept: those kept, or those built
+unfoldable pub withKnots : Float → Tmesh → Generated
+withKnots e map = cond (map .kept) (record { outcome = Done; map = map }) (generateKnotVectors e map)
+
+unfoldable pub subsOf : Float → Tmesh → Float → Float → Evaluated
+subsOf e map s t = evaluatedBy (withKnots e map .outcome) (withKnots e map .map) s t
+
+-- ---- the set-point: 15 unless the weight is positive and finite
+abbrev pub weighty : Evaluation → Bool
+weighty value = lt zeroLiteral (value .weight) && lt (value .weight) (inf false)
+
+unfoldable pub setPoint : Evaluation → EvaluationAnswer
+setPoint value = cond (weighty value) (Is value) (Refused NoWeight)

@@ -1,0 +1,112 @@
+-- Laws of evaluation: a sum that stands at a number is the whole sum once the rest is added, whatever its parts are; the four sums of an
+-- evaluation stand together; and the map by whose knots it is;
+-- and 1.0 / 0.0.
+use Prim.Native.Nat.{ℕ, suc, _+_, _-_, _<_}
+use mathlib.Core.Path.{_≡_, refl, ap, _∙_}
+use mathlib.Core.Bool.{Bool, true, false, cond}
+use native.Mathlib.Omega.{arith}
+use lib.Ieee.{Float, inf, binary64, ofBits, ofFields, add, div}
+use Rattle.float64.specs.Literals.{zeroLiteral, oneLiteral}
+use Rattle.control_point.specs.declared.refusal.Outcome.{Outcome}
+use Rattle.control_point.specs.declared.refusal.Outcome.the-variants.{Done}
+use Rattle.t_mesh.specs.Tmesh.{X, Y, Z, isListed}
+use Rattle.t_mesh.specs.declared.t_mesh.Tmesh.{Tmesh}
+use Rattle.surface.specs.Evaluation.{knotsOf, positionOf, weightOf, shareOf, shareBy, sumFrom, sumOf, valueOf, answerBy, evaluatedBy, withKnots, subsOf}
+use Rattle.knot_vectors.specs.Knots.{generateKnotVectors}
+use Rattle.surface.specs.declared.evaluation.Evaluation.{Evaluation}
+use Rattle.surface.specs.declared.evaluation.EvaluationAnswer.{EvaluationAnswer}
+use Rattle.surface.specs.declared.evaluation.Share.{Share}
+use Rattle.knot_vectors.specs.declared.knots.Generated.{Generated}
+
+-- the sum of the parts below n
+abbrev pub Standing : Tmesh → (ℕ → Float) → ℕ → Float → Type 0
+Standing map part n sum = sumOf map part ≡ sumFrom map part (128 - n) n sum
+
+module _ (map : Tmesh) (part : ℕ → Float) where
+  sum-end : (left n : ℕ) (sum : Float) → left ≡ 0 → sumFrom map part left n sum ≡ sum
+  unfolding sumFrom
+  sum-end left n sum h = simp h
+
+  sum-step : (left more n : ℕ) (sum next : Float) → left ≡ suc more → next ≡ cond (isListed map n) (add binary64 sum (part n)) sum
+      → sumFrom map part left n sum ≡ sumFrom map part more (n + 1) next
+  unfolding sumFrom
+  sum-step left more n sum next h k = rw k (simp h)
+
+  standing-end : (n : ℕ) (sum : Float) → n ≡ 128 → Standing map part n sum → sumOf map part ≡ sum
+  standing-end n sum h standing = standing ∙ sum-end (128 - n) n sum (omega arith)
+
+  module _ (n : ℕ) (sum next : Float) (h : n < 128) (standing : Standing map part n sum) where
+    standing-next : next ≡ cond (isListed map n) (add binary64 sum (part n)) sum → Standing map part (n + 1) next
+    standing-next k = standing ∙ sum-step (128 - n) (128 - (n + 1)) n sum next (omega arith) k
+
+    standing-added : (share : Float) → isListed map n ≡ true → share ≡ part n → next ≡ add binary64 sum share → Standing map part (n + 1) next
+    standing-added share l p k = standing-next (k ∙ simp (l, p))
+
+    standing-passed : isListed map n ≡ false → next ≡ sum → Standing map part (n + 1) next
+    standing-passed l k = standing-next (k ∙ simp l)
+
+-- ---- the four sums of an evaluation
+pub record Sums (map : Tmesh) (s t : Float) (n : ℕ) (x y z weight : Float) : Type 0 where
+  pub on-x : Standing map (shareOf X map s t) n x
+  pub on-y : Standing map (shareOf Y map s t) n y
+  pub on-z : Standing map (shareOf Z map s t) n z
+  pub of-weight : Standing map (weightOf map s t) n weight
+
+module _ (map : Tmesh) (s t : Float) where
+  pub sums-start : Sums map s t 0 zeroLiteral zeroLiteral zeroLiteral zeroLiteral
+  sums-start = record { on-x = refl; on-y = refl; on-z = refl; of-weight = refl }
+
+  pub sums-end : (n : ℕ) (x y z weight : Float) → n ≡ 128 → Sums map s t n x y z weight
+      → record { x = div binary64 x weight; y = div binary64 y weight; z = div binary64 z weight; weight = weight } ≡ valueOf map s t
+  unfolding valueOf
+  sums-end n x y z weight h sums =
+      rw (
+        standing-end map (shareOf X map s t) n x h (sums .on-x),
+        standing-end map (shareOf Y map s t) n y h (sums .on-y),
+        standing-end map (shareOf Z map s t) n z h (sums .on-z),
+        standing-end map (weightOf map s t) n weight h (sums .of-weight),
+      )
+
+  module _ (n : ℕ) (x y z weight x′ y′ z′ weight′ : Float) (h : n < 128) (sums : Sums map s t n x y z weight) where
+    pub sums-added : (share : Share) → isListed map n ≡ true → share ≡ shareBy (knotsOf map n) (positionOf map n) s t
+        → x′ ≡ add binary64 x (share .x) → y′ ≡ add binary64 y (share .y) → z′ ≡ add binary64 z (share .z) → weight′ ≡ add binary64 weight (share .weight)
+        → Sums map s t (n + 1) x′ y′ z′ weight′
+    sums-added share l k a b c d =
+        record {
+          on-x = standing-added map (shareOf X map s t) n x x′ h (sums .on-x) (share .x) l (ap (λ (p : Share). p .x) k) a;
+          on-y = standing-added map (shareOf Y map s t) n y y′ h (sums .on-y) (share .y) l (ap (λ (p : Share). p .y) k) b;
+          on-z = standing-added map (shareOf Z map s t) n z z′ h (sums .on-z) (share .z) l (ap (λ (p : Share). p .z) k) c;
+          of-weight = standing-added map (weightOf map s t) n weight weight′ h (sums .of-weight) (share .weight) l (ap (λ (p : Share). p .weight) k) d;
+        }
+
+    pub sums-passed : isListed map n ≡ false → x′ ≡ x → y′ ≡ y → z′ ≡ z → weight′ ≡ weight → Sums map s t (n + 1) x′ y′ z′ weight′
+    sums-passed l a b c d =
+        record {
+          on-x = standing-passed map (shareOf X map s t) n x x′ h (sums .on-x) l a;
+          on-y = standing-passed map (shareOf Y map s t) n y y′ h (sums .on-y) l b;
+          on-z = standing-passed map (shareOf Z map s t) n z z′ h (sums .on-z) l c;
+          of-weight = standing-passed map (weightOf map s t) n weight weight′ h (sums .of-weight) l d;
+        }
+
+-- ---- the map by whose knots it is
+module _ (e : Float) (map : Tmesh) where
+  module _ (outcome : Outcome) (ready : Tmesh) where
+    pub ready-kept : map .kept ≡ true → outcome ≡ Done → ready ≡ map → record { outcome = outcome; map = ready } ≡ withKnots e map
+    unfolding withKnots
+    ready-kept h o m = rw (o, m) (simp h)
+
+    pub ready-built : (generated : Generated) → generated ≡ generateKnotVectors e map → map .kept ≡ false → outcome ≡ generated .outcome → ready ≡ generated .map
+        → record { outcome = outcome; map = ready } ≡ withKnots e map
+    unfolding withKnots
+    ready-built generated g h o m = rw (o, m) (simp h g)
+
+  pub evaluated-ready : (s t : Float) (outcome : Outcome) (ready : Tmesh) (value : Evaluation) (answer : EvaluationAnswer)
+      → record { outcome = outcome; map = ready } ≡ withKnots e map → value ≡ valueOf ready s t → answer ≡ answerBy outcome value
+      → record { answer = answer; map = ready } ≡ subsOf e map s t
+  unfolding subsOf
+  evaluated-ready s t outcome ready value answer h v a = rw (a, v) (ap (λ (x : Generated). evaluatedBy (x .outcome) (x .map) s t) h)
+
+-- ---- the infinity, as code writes it
+pub infinity : div binary64 oneLiteral zeroLiteral ≡ inf false
+unfolding ofBits ofFields div
+infinity = refl
