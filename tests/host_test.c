@@ -1,14 +1,19 @@
 /*
- * host_test CASES [PROGRAM]: tries the C call, and says in one line how it went.
+ * host_test CASES [PROGRAM]: tries the C call, and with PROGRAM the program `gatemap` too, and says in one line how it went.
  *
+ * The files are document 01's sample, every prefix and every change of one byte of it; samples of 0, 1, 2, 999, 1,000 and 1,001 edits, also with
+ * count or length one off; and those of CASES, which is crates/file_replay/data/cases (oracle/README.md has its format).
  * Every call is made twice, with file and buffer right before memory that cannot be touched and right after such memory, so that one
  * byte read or written too far ends the test; what of the buffer's page is not to be written is looked at after each call.
- * CASES is crates/file_replay/data/cases (oracle/README.md has its format). With PROGRAM, the program `gatemap`, what that prints of
- * each stored file is held against the stored text and against the call at (0.5, 0.5). The line also says how much stack was touched, which is held
- * to what the header says.
+ * The program is run once on each file, and must end with status 0 and print the file's report and nothing else. The report is the stored text
+ * or, of a file made here, the text that document 01 asks for; its last line is held against the call at (0.5, 0.5).
+ * The line also says how much stack was touched, which is held to what the header says.
  */
-#define _DEFAULT_SOURCE
+#define _GNU_SOURCE
+#include <errno.h>
+#include <fcntl.h>
 #include <pthread.h>
+#include <spawn.h>
 #include <stdarg.h>
 #include <stdio.h>
 #include <stdlib.h>
@@ -24,8 +29,10 @@ enum {
     VERSION_AT = 4,
     EDITS_AT = 109,
     EDIT_BYTES = 34,
+    RATIO_AT = 2,
     MOST_EDITS = 1000,
     MOST_CASE_BYTES = 65536,
+    MOST_LINE_BYTES = 96,
     MOST_ROOM = 80,
     STACK_BYTES = 16 << 20,
     FILLER = 0xa5
@@ -35,7 +42,10 @@ static const uint64_t HALF = 0x3fe0000000000000;
 static const uint64_t ONE = 0x3ff0000000000000;
 static const uint64_t TWO = 0x4000000000000000;
 
-static unsigned long calls, files, wrong;
+static const double MILLIONTH = 1.0 / 1000000.0;
+
+static const char *program;
+static unsigned long calls, runs, files, wrong;
 
 static void check(int right, const char *format, ...)
 {
@@ -149,12 +159,7 @@ static struct answer call(const uint8_t *bytes, size_t length, uint64_t s, uint6
     return answer;
 }
 
-static uint64_t in_the_middle(const uint8_t *bytes, size_t length)
-{
-    return call(bytes, length, HALF, HALF, GATEMAP_VALUE_BYTES).number;
-}
-
-/* ---- files made here */
+/* ---- numbers in files */
 
 static uint8_t *put_number(uint8_t *at, uint64_t number, int bytes)
 {
@@ -162,6 +167,89 @@ static uint8_t *put_number(uint8_t *at, uint64_t number, int bytes)
         *at++ = (uint8_t)(number >> 8 * i);
     return at;
 }
+
+static size_t pair_at(const uint8_t *bytes)
+{
+    return (size_t)bytes[0] << 8 | bytes[1];
+}
+
+static uint64_t number_at(const uint8_t *bytes)
+{
+    uint64_t number = 0;
+    for (int i = 0; i < 8; i++)
+        number = number << 8 | bytes[i];
+    return number;
+}
+
+static double float_at(const uint8_t *bytes)
+{
+    uint64_t bits = number_at(bytes);
+    double number;
+    memcpy(&number, &bits, sizeof number);
+    return number;
+}
+
+/* ---- the program */
+
+static pid_t start(int in, int out)
+{
+    pid_t child;
+    char *words[] = {(char *)program, NULL};
+    posix_spawn_file_actions_t ends;
+    stop_unless(posix_spawn_file_actions_init(&ends) == 0 && posix_spawn_file_actions_adddup2(&ends, in, 0) == 0 &&
+                    posix_spawn_file_actions_adddup2(&ends, out, 1) == 0 && posix_spawn_file_actions_adddup2(&ends, out, 2) == 0,
+                "posix_spawn_file_actions");
+    errno = posix_spawn(&child, program, &ends, NULL, words, environ);
+    stop_unless(errno == 0, program);
+    posix_spawn_file_actions_destroy(&ends);
+    return child;
+}
+
+/* What the program prints of a file, errors included. Both fit a pipe. */
+static size_t printed(const uint8_t *bytes, size_t length, char *text, size_t most)
+{
+    int in[2], out[2];
+    stop_unless(pipe2(in, O_CLOEXEC) == 0 && pipe2(out, O_CLOEXEC) == 0, "pipe");
+    stop_unless(write(in[1], bytes, length) == (ssize_t)length, "write");
+    close(in[1]);
+    pid_t child = start(in[0], out[1]);
+    close(in[0]);
+    close(out[1]);
+    size_t got = 0;
+    ssize_t part;
+    while (got < most && (part = read(out[0], text + got, most - got)) > 0)
+        got += (size_t)part;
+    close(out[0]);
+    int status;
+    stop_unless(waitpid(child, &status, 0) == child, "waitpid");
+    check(WIFEXITED(status) && WEXITSTATUS(status) == 0, "the program ended with status %d", status);
+    return got;
+}
+
+/* Whether the program prints this text of a file and nothing else. */
+static int prints(const uint8_t *bytes, size_t length, const char *text, size_t text_length)
+{
+    static char out[MOST_CASE_BYTES];
+    if (program == NULL)
+        return 1;
+    size_t got = printed(bytes, length, out, sizeof out);
+    runs++;
+    return got == text_length && memcmp(out, text, got) == 0;
+}
+
+/* The last line of a report, as the call's answer at (0.5, 0.5) has it. A refused file has no other. */
+static size_t put_last_line(char *line, struct answer answer)
+{
+    const uint8_t *value = answer.value;
+    if (answer.number == GATEMAP_DONE)
+        return (size_t)snprintf(line, MOST_LINE_BYTES, "mid %016llx %016llx %016llx %016llx\n", (unsigned long long)number_at(value),
+                                (unsigned long long)number_at(value + 8), (unsigned long long)number_at(value + 16),
+                                (unsigned long long)number_at(value + 24));
+    int of_file = GATEMAP_LENGTH <= answer.number && answer.number <= GATEMAP_HEADING;
+    return (size_t)snprintf(line, MOST_LINE_BYTES, "%s refused %d\n", of_file ? "file" : "mid", (int)answer.number);
+}
+
+/* ---- files made here */
 
 /* The square map with border 1.0 and so many edits of ratio 2.0, which are all refused. The one with one edit is document 01's. */
 static size_t sample(uint8_t *file, size_t edits)
@@ -182,13 +270,48 @@ static size_t sample(uint8_t *file, size_t edits)
 static const uint8_t SAMPLE_VALUE[GATEMAP_VALUE_BYTES] = {0x3f, 0xe0, 0, 0, 0, 0, 0, 0, 0x3f, 0xe0, 0, 0, 0, 0, 0, 0,
                                                           0x3f, 0xe0, 0, 0, 0, 0, 0, 0, 0x3f, 0xec, 0x20, 0, 0, 0, 0, 0};
 
+/*
+ * What stands before the last line of a report, for a sample with at most one byte changed. The ratios decide: one outside 0 to 1 is refused;
+ * any other makes point 4, open above, between corners 0 and 1, and is torn within a millionth of corner 0, which has the link to corner 3.
+ */
+static size_t put_first_lines(char *text, const uint8_t *bytes, size_t length)
+{
+    size_t end = 0;
+    const char *rest = "made 4 listed 4 links 4\n";
+    for (size_t edit = 1, at = EDITS_AT; at < length; edit++, at += EDIT_BYTES) {
+        double ratio = float_at(bytes + at + RATIO_AT);
+        int refused = !(0 <= ratio && ratio <= 1), torn = !refused && ratio <= MILLIONTH;
+        if (refused || torn)
+            end += (size_t)snprintf(text + end, MOST_LINE_BYTES, "edit %zu refused %d\n", edit, torn ? GATEMAP_TORN : GATEMAP_RATIO);
+        if (!refused)
+            rest = torn ? "made 5 listed 4 links 5\nopen 4 0\n" : "made 5 listed 5 links 5\nopen 4 0\n";
+    }
+    return end + (size_t)snprintf(text + end, MOST_LINE_BYTES, "%s", rest);
+}
+
+/* The call's answer at (0.5, 0.5), which the program's report must have too. */
+static struct answer in_the_middle(const uint8_t *bytes, size_t length)
+{
+    static char text[MOST_CASE_BYTES];
+    struct answer answer = call(bytes, length, HALF, HALF, GATEMAP_VALUE_BYTES);
+    size_t end = refusal_of(bytes, length, GATEMAP_VALUE_BYTES) == GATEMAP_DONE ? put_first_lines(text, bytes, length) : 0;
+    end += put_last_line(text + end, answer);
+    check(prints(bytes, length, text, end), "the program prints of %zu bytes something other than\n%.*s", length, (int)end, text);
+    return answer;
+}
+
 static uint8_t file[MOST_CASE_BYTES];
+
+static void refused_for_length(size_t length, const char *words)
+{
+    check(in_the_middle(file, length).number == GATEMAP_LENGTH, "%zu bytes: %s", length, words);
+}
 
 static void every_prefix(void)
 {
     size_t length = sample(file, 1);
     for (size_t prefix = 0; prefix < length; prefix++)
-        check(in_the_middle(file, prefix) == GATEMAP_LENGTH, "a prefix of %zu bytes", prefix);
+        refused_for_length(prefix, "a prefix");
 }
 
 static void every_change_of_a_byte(void)
@@ -197,36 +320,41 @@ static void every_change_of_a_byte(void)
     for (size_t at = 0; at < length; at++) {
         uint8_t kept = file[at];
         for (int change = 1; change < 256; change++) {
+            unsigned long before = wrong;
             file[at] = (uint8_t)(kept ^ change);
             in_the_middle(file, length);
+            check(wrong == before, "so it is with byte %zu changed to %d", at, file[at]);
         }
         file[at] = kept;
     }
 }
 
+static const size_t EDITS[] = {0, 1, 2, MOST_EDITS - 1, MOST_EDITS, MOST_EDITS + 1};
+
+enum { EDITS_TRIED = sizeof EDITS / sizeof EDITS[0] };
+
 static void counts_one_off(void)
 {
-    for (size_t edits = 0; edits <= 2; edits++) {
-        size_t length = sample(file, edits);
+    for (int i = 0; i < EDITS_TRIED; i++)
         for (int off = -1; off <= 1; off += 2) {
+            size_t length = sample(file, EDITS[i]);
+            refused_for_length(length + (size_t)off, "a length that is one off");
             put_number(file, length - COUNT_BYTES + (uint64_t)off, COUNT_BYTES);
-            check(in_the_middle(file, length) == GATEMAP_LENGTH, "a count that is off by %d", off);
-            check(in_the_middle(file, length + (size_t)off) == GATEMAP_LENGTH, "%zu bytes", length + (size_t)off);
+            refused_for_length(length, "a count that is one off");
+            refused_for_length(length + (size_t)off, "count and length one off");
         }
-    }
 }
 
 static void counts_of_edits(void)
 {
-    static const size_t counts[] = {0, 1, 2, MOST_EDITS - 1, MOST_EDITS, MOST_EDITS + 1};
-    for (size_t i = 0; i < sizeof counts / sizeof counts[0]; i++) {
-        size_t length = sample(file, counts[i]);
-        struct answer answer = call(file, length, HALF, HALF, GATEMAP_VALUE_BYTES);
-        if (counts[i] <= MOST_EDITS)
+    for (int i = 0; i < EDITS_TRIED; i++) {
+        size_t length = sample(file, EDITS[i]);
+        struct answer answer = in_the_middle(file, length);
+        if (EDITS[i] <= MOST_EDITS)
             check(answer.number == GATEMAP_DONE && memcmp(answer.value, SAMPLE_VALUE, sizeof SAMPLE_VALUE) == 0,
-                  "the value after %zu refused edits", counts[i]);
+                  "the value after %zu refused edits", EDITS[i]);
         else
-            check(answer.number == GATEMAP_LENGTH, "%zu edits", counts[i]);
+            check(answer.number == GATEMAP_LENGTH, "%zu edits", EDITS[i]);
     }
 }
 
@@ -244,74 +372,12 @@ static void every_room(void)
 
 /* ---- stored files */
 
-static size_t pair_at(const uint8_t *bytes)
+static void stored_report(const uint8_t *bytes, size_t length, const char *text, size_t text_length)
 {
-    return (size_t)bytes[0] << 8 | bytes[1];
-}
-
-static uint64_t number_at(const uint8_t *bytes)
-{
-    uint64_t number = 0;
-    for (int i = 0; i < 8; i++)
-        number = number << 8 | bytes[i];
-    return number;
-}
-
-static void close_all(int first, int second, int third)
-{
-    close(first);
-    close(second);
-    close(third);
-}
-
-/* What a program prints of a file. Both fit a pipe. */
-static size_t printed(const char *program, const uint8_t *bytes, size_t length, char *text, size_t most)
-{
-    int in[2], out[2];
-    stop_unless(pipe(in) == 0 && pipe(out) == 0, "pipe");
-    stop_unless(write(in[1], bytes, length) == (ssize_t)length, "write");
-    pid_t child = fork();
-    stop_unless(child >= 0, "fork");
-    if (child == 0) {
-        dup2(in[0], 0);
-        dup2(out[1], 1);
-        close_all(in[0], in[1], out[1]);
-        close(out[0]);
-        execl(program, program, (char *)NULL);
-        _exit(127);
-    }
-    close_all(in[0], in[1], out[1]);
-    size_t got = 0;
-    ssize_t part;
-    while (got < most && (part = read(out[0], text + got, most - got)) > 0)
-        got += (size_t)part;
-    close(out[0]);
-    int status;
-    waitpid(child, &status, 0);
-    check(WIFEXITED(status) && WEXITSTATUS(status) == 0, "the program ended with status %d", status);
-    return got;
-}
-
-/* The program's last line, as the call's answer at (0.5, 0.5) has it. */
-static int line_of(struct answer answer, char *line, size_t most)
-{
-    const uint8_t *value = answer.value;
-    if (answer.number == GATEMAP_DONE)
-        return snprintf(line, most, "mid %016llx %016llx %016llx %016llx\n", (unsigned long long)number_at(value),
-                        (unsigned long long)number_at(value + 8), (unsigned long long)number_at(value + 16),
-                        (unsigned long long)number_at(value + 24));
-    int of_file = GATEMAP_LENGTH <= answer.number && answer.number <= GATEMAP_HEADING;
-    return snprintf(line, most, "%s refused %d\n", of_file ? "file" : "mid", (int)answer.number);
-}
-
-static void against_program(const char *program, const uint8_t *bytes, size_t length, const uint8_t *text, size_t text_length)
-{
-    static char out[MOST_CASE_BYTES];
-    char line[96];
-    size_t got = printed(program, bytes, length, out, sizeof out);
-    check(got == text_length && memcmp(out, text, got) == 0, "the text of stored file %lu", files);
-    size_t end = (size_t)line_of(call(bytes, length, HALF, HALF, GATEMAP_VALUE_BYTES), line, sizeof line);
-    check(end <= got && memcmp(out + got - end, line, end) == 0, "the last line of stored file %lu is not %s", files, line);
+    char line[MOST_LINE_BYTES];
+    size_t end = put_last_line(line, call(bytes, length, HALF, HALF, GATEMAP_VALUE_BYTES));
+    check(end <= text_length && memcmp(text + text_length - end, line, end) == 0, "the last line of stored file %lu is not %s", files, line);
+    check(prints(bytes, length, text, text_length), "the text of stored file %lu", files);
 }
 
 static void stored_call(const uint8_t *bytes, size_t length, const uint8_t *stored)
@@ -321,7 +387,7 @@ static void stored_call(const uint8_t *bytes, size_t length, const uint8_t *stor
     check(memcmp(answer.value, stored + 18, sizeof answer.value) == 0, "stored file %lu: the value", files);
 }
 
-static void stored_files(const char *path, const char *program)
+static void stored_files(const char *path)
 {
     static uint8_t rest[MOST_CASE_BYTES];
     uint8_t head[2];
@@ -337,31 +403,25 @@ static void stored_files(const char *path, const char *program)
         for (int left = stored[-1]; left > 0; left--, stored += 18 + GATEMAP_VALUE_BYTES)
             stored_call(bytes, length, stored);
         check(stored == rest + size, "stored file %lu: its length", files);
-        if (program != NULL)
-            against_program(program, bytes, length, text, text_length);
+        stored_report(bytes, length, (const char *)text, text_length);
         files++;
     }
     fclose(cases);
 }
 
-struct task {
-    const char *cases, *program;
-};
-
-static void *everything(void *given)
+static void *everything(void *cases)
 {
-    const struct task *task = given;
     every_prefix();
     every_change_of_a_byte();
     counts_one_off();
     counts_of_edits();
     every_room();
-    stored_files(task->cases, task->program);
+    stored_files(cases);
     return NULL;
 }
 
 /* Does everything on a stack filled beforehand, and says how much of it was touched. What the test itself needs is small beside it. */
-static size_t stack_touched(struct task *task)
+static size_t stack_touched(char *cases)
 {
     pthread_attr_t attributes;
     pthread_t thread;
@@ -369,7 +429,7 @@ static size_t stack_touched(struct task *task)
     stop_unless(stack != MAP_FAILED, "mmap");
     memset(stack, FILLER, STACK_BYTES);
     stop_unless(pthread_attr_init(&attributes) == 0 && pthread_attr_setstack(&attributes, stack, STACK_BYTES) == 0 &&
-                    pthread_create(&thread, &attributes, everything, task) == 0 && pthread_join(thread, NULL) == 0,
+                    pthread_create(&thread, &attributes, everything, cases) == 0 && pthread_join(thread, NULL) == 0,
                 "a thread");
     size_t untouched = 0;
     while (untouched < STACK_BYTES && stack[untouched] == FILLER)
@@ -383,11 +443,10 @@ int main(int argc, char **argv)
         fputs("usage: host_test CASES [PROGRAM]\n", stderr);
         return 2;
     }
-    struct task task = {argv[1], argc == 3 ? argv[2] : NULL};
+    program = argc == 3 ? argv[2] : NULL;
     file_room = fence(MOST_CASE_BYTES);
     out_room = fence(MOST_ROOM);
-    size_t stack = stack_touched(&task);
-    printf("%lu calls, %lu stored files%s, %zu bytes of stack: %lu wrong\n", calls, files,
-           task.program ? " printed too" : "", stack, wrong);
+    size_t stack = stack_touched(argv[1]);
+    printf("%lu calls, %lu runs of the program, %lu stored files, %zu bytes of stack: %lu wrong\n", calls, runs, files, stack, wrong);
     return files == 0 || wrong != 0 || stack > GATEMAP_STACK_BYTES;
 }
