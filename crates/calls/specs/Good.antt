@@ -22,8 +22,8 @@ use Rattle.search.specs.declared.search.Found.{Found}
 use Rattle.search.specs.declared.search.Found.the-variants.{At, Nothing, Failed}
 use Rattle.store.specs.Store.{storePoint}
 use Rattle.store.specs.declared.store.Store.{Store}
-use Rattle.insertion.specs.declared.across.NewSide.{NewSide}
-use Rattle.insertion.specs.declared.across.NewSide.the-variants.{Takes, Joins, Opens, Tears, Stays}
+use Rattle.insertion.specs.declared.insertion.NewSide.{NewSide}
+use Rattle.insertion.specs.declared.insertion.NewSide.the-variants.{Takes, Joins, Opens, Tears, Stays}
 use Rattle.ray.specs.Ray.{Ray, entries, refused}
 use Rattle.ray_entry.specs.declared.entry.Entry.{Entry}
 use Rattle.ray_entry.specs.declared.entry.Entry.the-variants.{Is, Refused as NoEntry}

@@ -33,8 +33,8 @@ use Rattle.store.specs.Store.{storeSides, storePoint, withPoint, withSideAt, wi
 use Rattle.store.specs.declared.store.Store.{Store}
 use Rattle.insertion.specs.Insert.{inUnit, cut, pointInLine, placed, soughtSide, borderOr, newSide, withNewSide, unlessTorn, firstSide, withFirst, secondSide, sided, insertPoint}
 use Rattle.insertion.specs.declared.insertion.Inserted.{Inserted}
-use Rattle.insertion.specs.declared.across.NewSide.{NewSide}
-use Rattle.insertion.specs.declared.across.NewSide.the-variants.{Takes, Joins, Opens, Tears, Stays}
+use Rattle.insertion.specs.declared.insertion.NewSide.{NewSide}
+use Rattle.insertion.specs.declared.insertion.NewSide.the-variants.{Takes, Joins, Opens, Tears, Stays}
 use Rattle.mirror.specs.BoolLaws.{cond-case}
 use Rattle.calls.specs.ListLaws.{set-case}
 use Rattle.calls.specs.InsertionLaws.{insertion-case}

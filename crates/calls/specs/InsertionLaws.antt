@@ -19,7 +19,7 @@ use Rattle.control_point.specs.declared.t_mesh_direction.TmeshDirection.{TmeshD
 use Rattle.store.specs.Store.{storeSides, readSide}
 use Rattle.store.specs.declared.store.Store.{Store}
 use Rattle.insertion.specs.Insert.{inUnit, checkedIntervals, checkedFacing, checkedSide, checked, placed, sided, passed, insertPoint}
-use Rattle.insertion.specs.declared.check.Checked.{Checked}
+use Rattle.insertion.specs.declared.insertion.Checked.{Checked}
 use Rattle.insertion.specs.declared.insertion.InsertAnswer.the-variants.{Refused}
 use Rattle.insertion.specs.declared.insertion.Inserted.{Inserted}
 use Rattle.mirror.specs.BoolLaws.{cond-case}

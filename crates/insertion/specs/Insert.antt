@@ -10,7 +10,7 @@ use Rattle.float64.specs.Literals.{zeroLiteral, oneLiteral}
 use Rattle.control_point.specs.Direction.{clockwiseOf, antiClockwiseOf, flipOf}
 use Rattle.control_point.specs.Point.{withSide, loosePoint, sideRefusal}
 use Rattle.control_point.specs.Refusal.{refusalNumber}
-use Rattle.control_point.specs.Sides.{Sides, sidesWith}
+use Rattle.control_point.specs.Sides.{Sides, sideAt, sidesWith}
 use Rattle.control_point.specs.Small.{small}
 use Rattle.control_point.specs.declared.refusal.Refusal.the-variants.{Ratio, Foreign, Interval, Full}
 use Rattle.control_point.specs.declared.sides.SideAnswer.{SideAnswer}
@@ -22,16 +22,16 @@ use Rattle.control_point.specs.declared.t_mesh_direction.TmeshDirection.{TmeshD
 use Rattle.search.specs.Search.{findInferredConnection}
 use Rattle.search.specs.declared.search.Found.{Found}
 use Rattle.search.specs.declared.search.Found.the-variants.{At, Nothing, Failed}
-use Rattle.store.specs.Store.{storeSides, withSideAt, withNew, connectPoints, readSide}
+use Rattle.store.specs.Store.{storeSides, withSideAt, withNew, connectPoints}
 use Rattle.store.specs.declared.store.Changed.{Changed}
 use Rattle.store.specs.declared.store.Store.{Store}
-use Rattle.insertion.specs.declared.check.Checked.{Checked}
-use Rattle.insertion.specs.declared.check.Checked.the-variants.{Passed, Refused as NotPassed}
+use Rattle.insertion.specs.declared.insertion.Checked.{Checked}
+use Rattle.insertion.specs.declared.insertion.Checked.the-variants.{Passed, Refused as NotPassed}
 use Rattle.insertion.specs.declared.insertion.InsertAnswer.{InsertAnswer}
 use Rattle.insertion.specs.declared.insertion.InsertAnswer.the-variants.{Done, Torn, Refused}
 use Rattle.insertion.specs.declared.insertion.Inserted.{Inserted}
-use Rattle.insertion.specs.declared.across.NewSide.{NewSide}
-use Rattle.insertion.specs.declared.across.NewSide.the-variants.{Takes, Joins, Opens, Tears, Stays}
+use Rattle.insertion.specs.declared.insertion.NewSide.{NewSide}
+use Rattle.insertion.specs.declared.insertion.NewSide.the-variants.{Takes, Joins, Opens, Tears, Stays}
 
 -- ---- the answer
 -- its number: 0 done, 8 torn, or the refusal's
@@ -68,6 +68,10 @@ checkedSide e made (NoSide refusal) facing = NotPassed refusal
 unfoldable pub checked : Float → Float → Bool → ℕ → SideAnswer → (ℕ → SideAnswer) → Checked
 checked e ratio listed made side facing =
     cond (inUnit ratio) (cond listed (checkedSide e made side facing) (NotPassed Foreign)) (NotPassed Ratio)
+
+-- on the link from con in a direction, over sides
+abbrev pub checkedLink : Float → Float → Bool → Sides → ℕ → ℕ → TmeshDirection → Checked
+checkedLink e ratio listed sides made con d = checked e ratio listed made (sideAt sides made con d) (λ other. sideAt sides made other (flipOf d))
 
 -- ---- placing p
 -- the link is cut
@@ -185,5 +189,5 @@ passed store (NotPassed refusal) next = record { answer = Refused refusal; store
 unfoldable pub insertPoint : Float → Store → Bool → ℕ → TmeshDirection → Float → Inserted
 insertPoint e store listed con d ratio =
     passed store
-    (checked e ratio listed (store .made) (readSide store con d) (λ other. readSide store other (flipOf d)))
+    (checkedLink e ratio listed (storeSides store) (store .made) con d)
     (λ other interval. sided e (placed store con other d interval ratio) con (store .made) d)

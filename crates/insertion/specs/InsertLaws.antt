@@ -16,7 +16,8 @@ use Rattle.control_point.specs.Direction.{clockwiseOf, antiClockwiseOf, flipOf,
 use Rattle.control_point.specs.DirectionLaws.{same-self}
 use Rattle.control_point.specs.Point.{sideOf, withSide, movedFrom, isMade, isOpening, pointAt, blank}
 use Rattle.control_point.specs.PointLaws.{isMade-made, isMade-room, made-isMade}
-use Rattle.control_point.specs.Sides.{Sides, sidesWith, sidesWithPoint, linkedOf}
+use Rattle.control_point.specs.Sides.{Sides, sideAt, sidesWith, sidesWithPoint, linkedOf}
+use Rattle.control_point.specs.SidesLaws.{Agree}
 use Rattle.control_point.specs.Small.{small}
 use Rattle.control_point.specs.declared.refusal.Outcome.{Outcome}
 use Rattle.control_point.specs.declared.refusal.Outcome.the-variants.{Done as Connected, Refused as NotConnected}
@@ -37,14 +38,12 @@ use Rattle.store.specs.Store.{storeSides, storePoint, withPoint, withSideAt, wi
 use Rattle.store.specs.StoreLaws.{side-read, room-kept, sides-side, sides-new, sides-linked}
 use Rattle.store.specs.declared.store.Changed.{Changed}
 use Rattle.store.specs.declared.store.Store.{Store}
-use Rattle.insertion.specs.Insert.{inUnit, checkedIntervals, checkedFacing, checkedSide, checked, cut, pointInLine, parted, nearJoined, farJoined, placed, soughtSide, borderOr, newSide, withNewSide, unlessTorn, openedCount, inferredCount, tornOr, answerOf, firstSide, withFirst, secondSide, sided, passed, insertPoint}
-use Rattle.insertion.specs.Points.{madeSide, indexOf, joinedNumber, pointsWithNew, sidesWithNew, newSides}
-use Rattle.insertion.specs.PlacingLaws.{with-with, placedPoints, storedPoints, placed-stored}
-use Rattle.insertion.specs.declared.across.NewSide.{NewSide}
-use Rattle.insertion.specs.declared.across.NewSide.the-variants.{Takes, Joins, Opens, Tears, Stays}
-use Rattle.insertion.specs.declared.across.NewSides.{NewSides}
-use Rattle.insertion.specs.declared.check.Checked.{Checked}
-use Rattle.insertion.specs.declared.check.Checked.the-variants.{Passed, Refused as NotPassed}
+use Rattle.insertion.specs.Insert.{inUnit, checkedIntervals, checkedFacing, checkedSide, checked, checkedLink, cut, pointInLine, parted, nearJoined, farJoined, placed, soughtSide, borderOr, newSide, withNewSide, unlessTorn, openedCount, inferredCount, tornOr, answerOf, firstSide, withFirst, secondSide, sided, passed, insertPoint}
+use Rattle.insertion.specs.Lent.{madeSide}
+use Rattle.insertion.specs.declared.insertion.NewSide.{NewSide}
+use Rattle.insertion.specs.declared.insertion.NewSide.the-variants.{Takes, Joins, Opens, Tears, Stays}
+use Rattle.insertion.specs.declared.insertion.Checked.{Checked}
+use Rattle.insertion.specs.declared.insertion.Checked.the-variants.{Passed, Refused as NotPassed}
 use Rattle.insertion.specs.declared.insertion.InsertAnswer.{InsertAnswer}
 use Rattle.insertion.specs.declared.insertion.InsertAnswer.the-variants.{Done, Torn, Refused}
 use Rattle.insertion.specs.declared.insertion.Inserted.{Inserted}
@@ -110,27 +109,6 @@ module _ (sides : Sides) (made p : ℕ) (f : TmeshDirection) where
   unless-joins (Tears refusal) second h = tt
   unless-joins Stays second h = h
 
--- of two sides put at one place the second stands
-pub with-twice : (sides : Sides) (n : ℕ) (d : TmeshDirection) (a b : Side) → sidesWith (sidesWith sides n d a) n d b ≡ sidesWith sides n d b
-with-twice sides n d a b = λ i m e. by-test m e (eqb m n && sameDirection e d) i
-  where
-    by-test : (m : ℕ) (e : TmeshDirection) (x : Bool) → cond x b (cond x a (sides m e)) ≡ cond x b (sides m e)
-    by-test m e true = refl
-    by-test m e false = refl
-
--- the points of a linking whose first end was opened
-linked-opened : (points : List TmeshControlPoint) (p n : ℕ) (f : TmeshDirection) (interval : Float) → p < length points → (n ≡ p → ⊥)
-    → linked (record { points = set points p (withSide (pointAt points p) f Opening); made = 0 }) p n f interval .points ≡ pointsWithNew points p f (Joins n interval)
-linked-opened points p n f interval h apart =
-    let opened = withSide (pointAt points p) f Opening in
-    let joined = withSide (pointAt points p) f (Link n interval) in
-    ap (λ (q : TmeshControlPoint). set (set (set points p opened) p (withSide q f (Link n interval))) n (movedFrom (withSide (pointAt (set points p opened) n) (flipOf f) (Link p interval)) q f interval))
-    (getD-set-same points p opened blank h)
-    ∙ ap (λ (q : TmeshControlPoint). set (set (set points p opened) p (withSide opened f (Link n interval))) n (movedFrom (withSide q (flipOf f) (Link p interval)) opened f interval))
-    (getD-set-other points p n opened blank apart ∙ sym (getD-set-other points p n joined blank apart))
-    ∙ ap (λ (l : List TmeshControlPoint). set l n (movedFrom (withSide (pointAt (set points p joined) n) (flipOf f) (Link p interval)) opened f interval))
-    (set-set points p opened (withSide opened f (Link n interval)) ∙ ap (set points p) (with-with (pointAt points p) f Opening (Link n interval)))
-
 module _ (store : Store) (room : length (store .points) ≡ 128) (p : ℕ) (h : p < 128) (f : TmeshDirection) where
   abbrev openedAt : Store
   openedAt = withSideAt store p f Opening
@@ -152,17 +130,6 @@ module _ (store : Store) (room : length (store .points) ≡ 128) (p : ℕ) (h : 
     pub joined-apart : n ≡ p → ⊥
     joined-apart e = eqb-false p n (connectable-other _ (store .made) p n f j .1) (sym e)
 
-  pub sides-new-side : (side : NewSide) → MayJoin (storeSides store) (store .made) p f side → storeSides (withNewSide store p f side) ≡ sidesWithNew (storeSides store) p f side
-  sides-new-side (Takes weight) j = sides-side store room p h f (Border weight)
-  sides-new-side (Joins n interval) j =
-      ap (λ (c : Changed). storeSides (c .store)) (joined-linked n interval j)
-      ∙ sides-linked openedAt room-opened p n f interval h (joined-room n interval j) (joined-apart n interval j)
-      ∙ ap (λ (sides : Sides). sidesWith (sidesWith sides p f (Link n interval)) n (flipOf f) (Link p interval)) sides-opened
-      ∙ ap (λ (sides : Sides). sidesWith sides n (flipOf f) (Link p interval)) (with-twice (storeSides store) p f Opening (Link n interval))
-  sides-new-side Opens j = sides-opened
-  sides-new-side (Tears refusal) j = sides-opened
-  sides-new-side Stays j = refl
-
   pub made-new-side : (side : NewSide) → MayJoin (storeSides store) (store .made) p f side → withNewSide store p f side .made ≡ store .made
   made-new-side (Takes weight) j = refl
   made-new-side (Joins n interval) j = ap (λ (c : Changed). c .store .made) (joined-linked n interval j)
@@ -178,31 +145,7 @@ module _ (store : Store) (room : length (store .points) ≡ 128) (p : ℕ) (h : 
   room-new-side (Tears refusal) j = room-opened
   room-new-side Stays j = room
 
-  pub number-new-side : (side : NewSide) → MayJoin (storeSides store) (store .made) p f side → joinedNumber side p < 128
-  number-new-side (Takes weight) j = h
-  number-new-side (Joins n interval) j = joined-room n interval j
-  number-new-side Opens j = h
-  number-new-side (Tears refusal) j = h
-  number-new-side Stays j = h
-
-  -- as the points that are stored
-  pub points-new-side : (side : NewSide) → MayJoin (storeSides store) (store .made) p f side
-      → record { points = pointsWithNew (store .points) p f side; made = store .made } ≡ withNewSide store p f side
-  points-new-side (Takes weight) j = ap (λ (l : List TmeshControlPoint). record { points = l; made = store .made }) (set-getD _ p blank)
-  points-new-side (Joins n interval) j =
-      ap (λ (l : List TmeshControlPoint). record { points = l; made = store .made }) (sym (linked-opened (store .points) p n f interval (omega arith) (joined-apart n interval j)))
-      ∙ sym (ap (λ (c : Changed). c .store) (joined-linked n interval j))
-  points-new-side Opens j = ap (λ (l : List TmeshControlPoint). record { points = l; made = store .made }) (set-getD _ p blank)
-  points-new-side (Tears refusal) j = ap (λ (l : List TmeshControlPoint). record { points = l; made = store .made }) (set-getD _ p blank)
-  points-new-side Stays j = ap (λ (l : List TmeshControlPoint). record { points = l; made = store .made }) (set-getD _ p blank ∙ set-getD (store .points) p blank)
-
 -- ---- both sides of p
-flip-clockwise : (d : TmeshDirection) → flipOf (clockwiseOf d) ≡ antiClockwiseOf d
-flip-clockwise Up = refl
-flip-clockwise Right = refl
-flip-clockwise Down = refl
-flip-clockwise Left = refl
-
 module _ (e : Float) (store : Store) (room : length (store .points) ≡ 128) (con p : ℕ) (h : p < 128) (d : TmeshDirection) where
   pub first-joins : MayJoin (storeSides store) (store .made) p (clockwiseOf d) (firstSide e store con p d)
   unfolding firstSide
@@ -222,35 +165,6 @@ module _ (e : Float) (store : Store) (room : length (store .points) ≡ 128) (co
       rw made-first
       (unless-joins (storeSides (withFirst e store con p d)) (store .made) p (antiClockwiseOf d) (firstSide e store con p d) _
       (new-joins (storeSides (withFirst e store con p d)) (store .made) p (antiClockwiseOf d) e con))
-
-  -- asked of the sides alone
-  pub new-sides : newSides e (storeSides store) (store .made) con p (clockwiseOf d) ≡ record { first = firstSide e store con p d; second = secondSide e store con p d }
-  unfolding newSides firstSide withFirst secondSide
-  new-sides =
-      let first = newSide e (storeSides store) (store .made) con p (clockwiseOf d) in
-      ap (λ (sides : Sides). record { first = first; second = unlessTorn first (newSide e sides (store .made) con p (flipOf (clockwiseOf d))) })
-      (sym (sides-new-side store room p h (clockwiseOf d) first (new-joins (storeSides store) (store .made) p (clockwiseOf d) e con)))
-      ∙ ap (λ (g : TmeshDirection). record { first = first; second = unlessTorn first (newSide e (storeSides (withNewSide store p (clockwiseOf d) first)) (store .made) con p g) })
-      (flip-clockwise d)
-
-  first-stored : record { points = pointsWithNew (store .points) p (clockwiseOf d) (firstSide e store con p d); made = store .made } ≡ withFirst e store con p d
-  unfolding withFirst
-  first-stored = points-new-side store room p h (clockwiseOf d) (firstSide e store con p d) first-joins
-
-  -- as the points that are stored
-  pub sided-stored : record {
-    answer = answerOf (firstSide e store con p d) (secondSide e store con p d);
-    store = record {
-      points = pointsWithNew (pointsWithNew (store .points) p (clockwiseOf d) (firstSide e store con p d)) p (flipOf (clockwiseOf d)) (secondSide e store con p d);
-      made = store .made;
-    };
-  } ≡ sided e store con p d
-  unfolding sided
-  sided-stored =
-      ap (λ (after : Store). record { answer = answerOf (firstSide e store con p d) (secondSide e store con p d); store = after })
-      (ap (λ (g : TmeshDirection). record { points = pointsWithNew (pointsWithNew (store .points) p (clockwiseOf d) (firstSide e store con p d)) p g (secondSide e store con p d); made = store .made }) (flip-clockwise d)
-      ∙ ap (λ (after : Store). record { points = pointsWithNew (after .points) p (antiClockwiseOf d) (secondSide e store con p d); made = after .made }) first-stored
-      ∙ points-new-side (withFirst e store con p d) room-first p h (antiClockwiseOf d) (secondSide e store con p d) second-joins)
 
 -- ---- placing p
 module _ (store : Store) (room : length (store .points) ≡ 128) (roomy : store .made < 128) (con other : ℕ) (hc : isMade (store .made) con ≡ true) (ho : isMade (store .made) other ≡ true) (d : TmeshDirection) where
@@ -365,59 +279,41 @@ module _ (store : Store) (room : length (store .points) ≡ 128) (roomy : store 
     unfolding placed
     placed-linked = ap (λ (c : Changed). c .store) far-done
 
-    -- as the points that are stored
-    pub placed-points : record {
-      points = storedPoints (store .points) con other (store .made) d (mul binary64 interval ratio) (mul binary64 interval (sub binary64 oneLiteral ratio));
-      made = store .made + 1;
-    } ≡ placed store con other d interval ratio
-    placed-points =
-        sym (placed-linked
-        ∙ ap (λ (l : List TmeshControlPoint). record { points = l; made = store .made + 1 })
-        (placed-stored (store .points) con other (store .made) d (mul binary64 interval ratio) (mul binary64 interval (sub binary64 oneLiteral ratio))
-        (let k = isMade-room (store .made) con hc in omega arith)
-        (let k = isMade-room (store .made) other ho in omega arith)
-        (omega arith)
-        con-apart
-        other-apart))
+    pub room-placed : length (placed store con other d interval ratio .points) ≡ 128
+    room-placed = ap (λ (s : Store). length (s .points)) placed-linked ∙ rw (length-set, length-set, length-set, length-set) room-parted
 
 -- ---- the checks
--- a side read at the number of a point, where that is made
-pub side-made : (store : Store) (n : ℕ) (d : TmeshDirection) → madeSide (store .made) n (sideOf (pointAt (store .points) (indexOf (store .made) n)) d) ≡ readSide store n d
-side-made store n d = by-test (isMade (store .made) n) refl
-  where
-    by-test : (b : Bool) → isMade (store .made) n ≡ b → cond b (Is (sideOf (pointAt (store .points) (cond b n 0)) d)) (NoSide NoPoint) ≡ cond b (Is (storeSides store n d)) (NoSide NoPoint)
-    by-test true h = ap Is (sym (side-read store n d (isMade-room (store .made) n h)))
-    by-test false h = refl
+-- on two sides that were read, con's and the one that faces it
+module _ (e ratio : Float) (listed : Bool) (sides : Sides) (made con : ℕ) (d : TmeshDirection) where
+  facing-read : (b : Bool) (side : Side)
+      → checkedSide e made (cond b (Is side) (NoSide NoPoint)) (λ other. madeSide made other (sides (linkedOf side) (flipOf d)))
+      ≡ checkedSide e made (cond b (Is side) (NoSide NoPoint)) (λ other. sideAt sides made other (flipOf d))
+  facing-read true (Link other interval) = refl
+  facing-read true (Border weight) = refl
+  facing-read true Opening = refl
+  facing-read false side = refl
 
-module _ (e ratio : Float) (listed : Bool) (store : Store) (con : ℕ) (d g : TmeshDirection) where
-  -- the facing side is read at the number that con's side gives
-  facing-made : (b : Bool) (side : Side)
-      → checkedSide e (store .made) (cond b (Is side) (NoSide NoPoint)) (λ other. madeSide (store .made) other (sideOf (pointAt (store .points) (indexOf (store .made) (linkedOf side))) g))
-      ≡ checkedSide e (store .made) (cond b (Is side) (NoSide NoPoint)) (λ other. readSide store other g)
-  facing-made true (Link other interval) = ap (checkedFacing e (store .made) other interval) (side-made store other g)
-  facing-made true (Border weight) = refl
-  facing-made true Opening = refl
-  facing-made false side = refl
-
-  checked-read : let side = sideOf (pointAt (store .points) (indexOf (store .made) con)) d in
-      checked e ratio listed (store .made) (madeSide (store .made) con side) (λ other. madeSide (store .made) other (sideOf (pointAt (store .points) (indexOf (store .made) (linkedOf side))) g))
-      ≡ checked e ratio listed (store .made) (readSide store con d) (λ other. readSide store other g)
+  pub checked-read : (side : Side) → side ≡ sides con d → checked e ratio listed made (madeSide made con side) (λ other. madeSide made other (sides (linkedOf side) (flipOf d))) ≡ checkedLink e ratio listed sides made con d
   unfolding checked
-  checked-read =
-      let side = sideOf (pointAt (store .points) (indexOf (store .made) con)) d in
-      ap (λ (c : Checked). cond (inUnit ratio) (cond listed c (NotPassed Foreign)) (NotPassed Ratio)) (facing-made (isMade (store .made) con) side)
-      ∙ ap (λ (answer : SideAnswer). cond (inUnit ratio) (cond listed (checkedSide e (store .made) answer (λ other. readSide store other g)) (NotPassed Foreign)) (NotPassed Ratio)) (side-made store con d)
+  checked-read side is =
+      ap (λ (c : Checked). cond (inUnit ratio) (cond listed c (NotPassed Foreign)) (NotPassed Ratio)) (facing-read (isMade made con) side)
+      ∙ ap (λ (x : Side). cond (inUnit ratio) (cond listed (checkedSide e made (madeSide made con x) (λ other. sideAt sides made other (flipOf d))) (NotPassed Foreign)) (NotPassed Ratio)) is
 
--- the two points read at their indices
-pub checked-stored : (e ratio : Float) (listed : Bool) (store : Store) (con : ℕ) (d : TmeshDirection) (i j : ℕ) → i ≡ indexOf (store .made) con → j ≡ indexOf (store .made) (linkedOf (sideOf (pointAt (store .points) i) d))
-    → checked e ratio listed (store .made) (madeSide (store .made) con (sideOf (pointAt (store .points) i) d)) (λ other. madeSide (store .made) other (sideOf (pointAt (store .points) j) (flipOf d)))
-    ≡ checked e ratio listed (store .made) (readSide store con d) (λ other. readSide store other (flipOf d))
-checked-stored e ratio listed store con d i j i-is j-is = rw (j-is, i-is) (checked-read e ratio listed store con d (flipOf d))
+-- asked of sides that agree on all made numbers
+module _ (made : ℕ) (sides others : Sides) (agree : Agree made sides others) where
+  side-agrees : (n : ℕ) (d : TmeshDirection) → sideAt sides made n d ≡ sideAt others made n d
+  side-agrees n d = by-test (isMade made n) refl
+    where
+      by-test : (b : Bool) → isMade made n ≡ b → cond b (Is (sides n d)) (NoSide NoPoint) ≡ cond b (Is (others n d)) (NoSide NoPoint)
+      by-test true h = ap Is (agree n d h)
+      by-test false h = refl
 
--- what the checks passed say, by con's side
-pub record Passing (made con other : ℕ) (side : Side) : Type 0 where
+  pub checked-agrees : (e ratio : Float) (listed : Bool) (con : ℕ) (d : TmeshDirection) → checkedLink e ratio listed sides made con d ≡ checkedLink e ratio listed others made con d
+  checked-agrees e ratio listed con d = λ i. checked e ratio listed made (side-agrees con d i) (λ other. side-agrees other (flipOf d) i)
+
+-- what they say where they are passed
+pub record Passing (made con other : ℕ) : Type 0 where
   pub con-made : isMade made con ≡ true
-  pub other-is : linkedOf side ≡ other
   pub other-made : isMade made other ≡ true
   pub roomy : made < 128
 
@@ -443,29 +339,30 @@ module _ (e ratio : Float) (listed : Bool) (made con : ℕ) (other : ℕ) (inter
   facing-passes n k Opening h = refused-passes _ h
 
   made-passes : (n : ℕ) (k : Float) (facing : Side) (b : Bool) → isMade made n ≡ b → checkedFacing e made n k (cond b (Is facing) (NoSide NoPoint)) ≡ Passed other interval
-      → (n ≡ other) × ((isMade made other ≡ true) × (made < 128))
-  made-passes n k facing true t h = (facing-passes n k facing h .0, (ap (isMade made) (sym (facing-passes n k facing h .0)) ∙ t, facing-passes n k facing h .1))
+      → (isMade made other ≡ true) × (made < 128)
+  made-passes n k facing true t h = (ap (isMade made) (sym (facing-passes n k facing h .0)) ∙ t, facing-passes n k facing h .1)
   made-passes n k facing false t h = refused-passes NoPoint h
 
-  side-passes : (side facing : Side) (b : Bool) → isMade made con ≡ b → checkedSide e made (cond b (Is side) (NoSide NoPoint)) (λ n. madeSide made n facing) ≡ Passed other interval → Passing made con other side
-  side-passes (Link n k) facing true t h = let w = made-passes n k facing (isMade made n) refl h in record { con-made = t; other-is = w .0; other-made = w .1 .0; roomy = w .1 .1 }
-  side-passes (Border weight) facing true t h = refused-passes _ h
-  side-passes Opening facing true t h = refused-passes _ h
-  side-passes side facing false t h = refused-passes NoPoint h
+  module _ (sides : Sides) (d : TmeshDirection) where
+    side-passes : (side : Side) (b : Bool) → isMade made con ≡ b → checkedSide e made (cond b (Is side) (NoSide NoPoint)) (λ n. sideAt sides made n (flipOf d)) ≡ Passed other interval → Passing made con other
+    side-passes (Link n k) true t h = let w = made-passes n k (sides n (flipOf d)) (isMade made n) refl h in record { con-made = t; other-made = w .0; roomy = w .1 }
+    side-passes (Border weight) true t h = refused-passes _ h
+    side-passes Opening true t h = refused-passes _ h
+    side-passes side false t h = refused-passes NoPoint h
 
-  pub checked-passes : (side facing : Side) → checked e ratio listed made (madeSide made con side) (λ n. madeSide made n facing) ≡ Passed other interval → Passing made con other side
-  unfolding checked
-  checked-passes side facing h = by-tests (inUnit ratio) listed h
-    where
-      by-tests : (a b : Bool) → cond a (cond b (checkedSide e made (madeSide made con side) (λ n. madeSide made n facing)) (NotPassed Foreign)) (NotPassed Ratio) ≡ Passed other interval → Passing made con other side
-      by-tests true true g = side-passes side facing (isMade made con) refl g
-      by-tests true false g = refused-passes Foreign g
-      by-tests false b g = refused-passes Ratio g
+    pub checked-passes : checkedLink e ratio listed sides made con d ≡ Passed other interval → Passing made con other
+    unfolding checked
+    checked-passes h = by-tests (inUnit ratio) listed h
+      where
+        by-tests : (a b : Bool) → cond a (cond b (checkedSide e made (sideAt sides made con d) (λ n. sideAt sides made n (flipOf d))) (NotPassed Foreign)) (NotPassed Ratio) ≡ Passed other interval → Passing made con other
+        by-tests true true g = side-passes (sides con d) (isMade made con) refl g
+        by-tests true false g = refused-passes Foreign g
+        by-tests false b g = refused-passes Ratio g
 
 -- the call, by what the checks give
 module _ (e : Float) (store : Store) (listed : Bool) (con : ℕ) (d : TmeshDirection) (ratio : Float) where
   abbrev pub checkedCall : Checked
-  checkedCall = checked e ratio listed (store .made) (readSide store con d) (λ other. readSide store other (flipOf d))
+  checkedCall = checkedLink e ratio listed (storeSides store) (store .made) con d
 
   pub insert-passed : (other : ℕ) (interval : Float) → checkedCall ≡ Passed other interval
       → insertPoint e store listed con d ratio ≡ sided e (placed store con other d interval ratio) con (store .made) d

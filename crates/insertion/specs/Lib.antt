@@ -1,5 +1,4 @@
 pub mod Insert
-pub mod Points
-pub mod PlacingLaws
+pub mod Lent
 pub mod InsertLaws
-pub mod PointsLaws
+pub mod LentLaws

@@ -1,10 +1,26 @@
-// The insertion of a point into a link.
+// What an insertion finds and answers.
 ghost use mathlib.Core.Path.{_≡_};
 ghost use Rattle.insertion.specs.Insert.{answerNumber, openedCount, inferredCount, tornOr, answerOf};
-use crate::across::NewSide;
 use control_point::refusal::Refusal;
 use store::store::Store;
 
+// What the checks before an insertion give.
+pub enum Checked {
+    // The point at the other end of the link, and the interval.
+    Passed(u8, f64),
+    Refused(Refusal),
+}
+
+// What a side becomes: a border, a link, an opening, or an opening whose search failed; or it stays as it is.
+pub enum NewSide {
+    Takes(f64),
+    Joins(u8, f64),
+    Opens,
+    Tears(Refusal),
+    Stays,
+}
+
+// What an insertion answers.
 pub enum InsertAnswer {
     // The sides opened and the links inferred.
     Done(u8, u8),

@@ -1,5 +1,2 @@
-// The insertion of a control point into a link of a T-mesh.
-pub mod across;
-pub mod check;
+// The insertion of a control point into a link of a T-mesh: what it means, and what it answers.
 pub mod insertion;
-pub mod points;

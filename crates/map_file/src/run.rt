@@ -5,27 +5,29 @@ ghost use Rattle.big_endian.specs.Written.{written};
 ghost use Rattle.control_point.specs.Small.{millionth};
 ghost use Rattle.map_format.specs.Format.{editBytes};
 ghost use Rattle.map_file.specs.Run.{freshMap, fileMap, fileNumbers, asSetPoint, setPointAt, fileSetPoint};
-ghost use Rattle.map_file.specs.RunLaws.{SameEdits, meshEdited};
+ghost use Rattle.map_file.specs.RunLaws.{SameEdits};
 use big_endian::float_at;
 use big_endian::put_byte;
 use control_point::small::closeness;
 use evaluation::evaluation::set_point;
 use evaluation::evaluation::subs;
+use lent_insertion::insert_point;
+use lent_points::packed;
+use lent_points::unpack;
 use map_format::format::BORDER_AT;
 use map_format::format::CORNERS_AT;
 use map_format::format::EDIT_BYTES;
 use map_format::format::EDITS_AT;
-use map_format::format::Edit;
 use map_format::format::FileCheck;
 use map_format::format::POSITION_BYTES;
 use map_format::format::position_at;
 use map_format::format::validate;
 use map_format::reader::edit_from;
 use surface::evaluation::EvaluationAnswer;
-use t_mesh::add::InsertedMesh;
-use t_mesh::add::insert_into;
-use t_mesh::t_mesh::Mesh;
+use t_mesh::add::is_done;
+use t_mesh::add::is_refused;
 use t_mesh::t_mesh::Tmesh;
+use t_mesh::t_mesh::is_listed;
 
 // The map before the edits, its corners anticlockwise from bottom left.
 pub fn fresh_map(file: &[u8]) -> Tmesh
@@ -40,21 +42,6 @@ pub fn fresh_map(file: &[u8]) -> Tmesh
     )
 }
 
-// An edit of the mesh alone, so that the map's knots, which are large, are not passed.
-fn edit_mesh(mesh: Mesh, edit: Edit) -> InsertedMesh
-    ensures { λ r. ⌜ r ≡ meshEdited millionth mesh «edit» ⌝ }
-{
-    let direction = edit.direction;
-    insert_into(
-        closeness(),
-        mesh,
-        edit.point,
-        direction,
-        edit.ratio,
-        edit.position,
-    )
-}
-
 // Where the next edit is read. Past the file's end every edit reads the same.
 fn next_place(file: &[u8], at: usize) -> usize
     ensures { λ r. ⌜ SameEdits (now (file .entry)) r (at + editBytes) ⌝ }
@@ -63,23 +50,58 @@ fn next_place(file: &[u8], at: usize) -> usize
 }
 
 // The map after so many edits of the file; the answer number of each is noted, as far as there is room. No knots are kept from the
-// start, so an edit changes nothing but the mesh.
+// start, so an edit changes nothing but the mesh, and of that its points stay lent from the first edit to the last.
 pub fn run_edits(file: &[u8], count: usize, notes: &mut [u8]) -> Tmesh
     ensures map { λ r. ⌜ r ≡ fileMap millionth (now (file .entry)) count ⌝ }
     ensures notes { λ _. ⌜ now (notes .exit) ≡ written (now (notes .entry)) 0 (fileNumbers millionth (now (file .entry)) count) ⌝ }
 {
     let mut map = fresh_map(file);
+    let mut mesh = map.mesh;
+    let mut kinds = [0u8; 512];
+    let mut numbers = [0u8; 512];
+    let mut intervals = [0.0; 512];
+    let mut coordinates = [0.0; 256];
+    let fresh = mesh.points;
+    unpack(
+        &mut kinds,
+        &mut numbers,
+        &mut intervals,
+        &mut coordinates,
+        fresh,
+        mesh.made,
+    );
     let mut at = EDITS_AT;
     let mut n: usize = 0;
     while n < count {
-        let edited = edit_mesh(map.mesh, edit_from(file, at));
-        let answer = edited.answer;
+        let edit = edit_from(file, at);
+        let p = mesh.made;
+        let direction = edit.direction;
+        let answer = insert_point(
+            closeness(),
+            &mut kinds,
+            &mut numbers,
+            &mut intervals,
+            &mut coordinates,
+            p,
+            is_listed(mesh.listed, edit.point),
+            edit.point,
+            direction,
+            edit.ratio,
+        );
         put_byte(notes, n, answer.number());
-        let after = edited.mesh;
-        map.mesh = after;
+        if !is_refused(answer) {
+            let position = edit.position;
+            mesh.made = p + 1;
+            mesh.positions[p as usize] = position;
+            mesh.listed[p as usize] = is_done(answer);
+        }
         at = next_place(file, at);
         n += 1;
     }
+    let rest = mesh.points;
+    let points = packed(&kinds, &numbers, &intervals, &coordinates, rest, mesh.made);
+    mesh.points = points;
+    map.mesh = mesh;
     map
 }
 

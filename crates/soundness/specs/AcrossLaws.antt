@@ -23,8 +23,8 @@ use Rattle.search.specs.declared.search.Found.{Found}
 use Rattle.search.specs.declared.search.Found.the-variants.{At, Nothing, Failed}
 use Rattle.insertion.specs.Insert.{soughtSide, borderOr, newSide, withNewSide}
 use Rattle.insertion.specs.InsertLaws.{MayJoin, joined-linked}
-use Rattle.insertion.specs.declared.across.NewSide.{NewSide}
-use Rattle.insertion.specs.declared.across.NewSide.the-variants.{Takes, Joins, Opens, Tears, Stays}
+use Rattle.insertion.specs.declared.insertion.NewSide.{NewSide}
+use Rattle.insertion.specs.declared.insertion.NewSide.the-variants.{Takes, Joins, Opens, Tears, Stays}
 use Rattle.soundness.specs.KnownLaws.{Known, KnownFound, known-search}
 use Rattle.soundness.specs.LinkLaws.{with-turned, linked-first}
 use Rattle.soundness.specs.Theorems.{Connects}

@@ -25,9 +25,9 @@ use Rattle.mirror.specs.BoolLaws.{both-ways, cond-case}
 use Rattle.mirror.specs.Mirror.{MirrorOf, Sound}
 use Rattle.insertion.specs.Insert.{inUnit, checkedIntervals, checkedFacing, checkedSide, checked, placed, newSide, unlessTorn, tornOr, firstSide, withFirst, secondSide, sided, passed, insertPoint}
 use Rattle.insertion.specs.InsertLaws.{MayJoin, first-joins, second-joins}
-use Rattle.insertion.specs.declared.across.NewSide.{NewSide}
-use Rattle.insertion.specs.declared.across.NewSide.the-variants.{Takes, Joins, Opens, Tears, Stays}
-use Rattle.insertion.specs.declared.check.Checked.{Checked}
+use Rattle.insertion.specs.declared.insertion.NewSide.{NewSide}
+use Rattle.insertion.specs.declared.insertion.NewSide.the-variants.{Takes, Joins, Opens, Tears, Stays}
+use Rattle.insertion.specs.declared.insertion.Checked.{Checked}
 use Rattle.insertion.specs.declared.insertion.InsertAnswer.{InsertAnswer}
 use Rattle.insertion.specs.declared.insertion.InsertAnswer.the-variants.{Done, Torn, Refused}
 use Rattle.insertion.specs.declared.insertion.Inserted.{Inserted}

@@ -21,8 +21,8 @@ use Rattle.store.specs.Store.{storeSides, withSideAt, connectPoints, navigateUn
 use Rattle.store.specs.declared.store.Store.{Store}
 use Rattle.mirror.specs.Mirror.{Sound}
 use Rattle.insertion.specs.Insert.{nearJoined, farJoined, placed, firstSide, withFirst, secondSide, sided, insertPoint}
-use Rattle.insertion.specs.declared.across.NewSide.{NewSide}
-use Rattle.insertion.specs.declared.across.NewSide.the-variants.{Takes, Joins, Opens, Tears, Stays}
+use Rattle.insertion.specs.declared.insertion.NewSide.{NewSide}
+use Rattle.insertion.specs.declared.insertion.NewSide.the-variants.{Takes, Joins, Opens, Tears, Stays}
 use Rattle.insertion.specs.declared.insertion.Inserted.{Inserted}
 use Rattle.insertion.specs.declared.insertion.InsertAnswer.the-variants.{Torn, Refused as NotAdded}
 use Rattle.ray.specs.Knots.{pointKnotVectors}

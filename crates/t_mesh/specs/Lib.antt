@@ -1,2 +1,3 @@
 pub mod Tmesh
 pub mod Insertion
+pub mod InsertionLaws

@@ -1,0 +1,40 @@
+// Insertion of a point into a map.
+ghost use mathlib.Core.Path.{_≡_};
+ghost use Rattle.control_point.specs.Small.{millionth};
+ghost use Rattle.t_mesh.specs.Insertion.{keptAfter, addControlPoint};
+use control_point::small::closeness;
+use control_point::t_mesh_direction::TmeshDirection;
+use insertion::insertion::InsertAnswer;
+use mesh_insertion::insert_into;
+use t_mesh::add::Added;
+use t_mesh::t_mesh::Position;
+use t_mesh::t_mesh::Tmesh;
+
+// Whether kept knots are still kept after an insertion.
+fn kept_after(kept: bool, answer: InsertAnswer) -> bool
+    ensures { λ r. ⌜ r ≡ keptAfter kept answer ⌝ }
+{
+    match answer {
+        InsertAnswer::Done(_, _) => false,
+        InsertAnswer::Torn(_, _, _) => kept,
+        InsertAnswer::Refused(_) => kept,
+    }
+}
+
+// Into the link from con in a direction, at a ratio of its interval.
+pub fn add_control_point(
+    mut map: Tmesh,
+    con: u8,
+    direction: TmeshDirection,
+    ratio: f64,
+    position: Position,
+) -> Added
+    ensures { λ r. ⌜ r ≡ addControlPoint millionth map con direction ratio position ⌝ }
+{
+    let inserted = insert_into(closeness(), map.mesh, con, direction, ratio, position);
+    let answer = inserted.answer;
+    let after = inserted.mesh;
+    map.mesh = after;
+    map.kept = kept_after(map.kept, answer);
+    Added { answer, map }
+}
