@@ -33,6 +33,7 @@ unsafe extern "C" {
     fn bench_map_insertions(edits: *const u8, length: usize, repeats: u64) -> u64;
     fn bench_knots(edits: *const u8, length: usize, repeats: u64) -> u64;
     fn bench_evaluations(edits: *const u8, length: usize, repeats: u64) -> u64;
+    fn bench_lent_evaluations(edits: *const u8, length: usize, repeats: u64) -> u64;
     fn bench_rays(edits: *const u8, length: usize, repeats: u64) -> u64;
     fn bench_walks(edits: *const u8, length: usize, repeats: u64) -> u64;
     fn bench_lent_walks(edits: *const u8, length: usize, repeats: u64) -> u64;
@@ -158,11 +159,11 @@ fn line(name: &str, per_turn: f64, turns: u64, edits: &[Edit], file: &[u8], host
         plain.push(slope(|repeats| cells(edits, repeats), turns) / per_turn);
     }
     let (ours, theirs, plain) = (median(ours), median(theirs), median(plain));
-    println!("{name:48} {ours:10.1} {theirs:10.1} {plain:10.1} {:8.2} {:8.2}", ours / theirs, ours / plain);
+    println!("{name:56} {ours:10.1} {theirs:10.1} {plain:10.1} {:8.2} {:8.2}", ours / theirs, ours / plain);
 }
 
 fn main() {
-    println!("{:48} {:>10} {:>10} {:>10} {:>8} {:>8}", "work", "here, ns", "Rust, ns", "cells, ns", "ratio", "to cells");
+    println!("{:56} {:>10} {:>10} {:>10} {:>8} {:>8}", "work", "here, ns", "Rust, ns", "cells, ns", "ratio", "to cells");
     for points in [4, 16, 64, MOST_POINTS] {
         let edits = drawn(points);
         let file = bytes(&edits);
@@ -174,6 +175,7 @@ fn main() {
         }
         line(&format!("all knots built anew, {points} points"), 1.0, 20000 / points as u64, &edits, &file, bench_knots, locks::knots, cells::knots);
         line(&format!("evaluation with knots kept, {points} points"), 1.0, 20000, &edits, &file, bench_evaluations, locks::evaluations, cells::evaluations);
+        line(&format!("evaluation with knots kept, over lent knots, {points} points"), 1.0, 20000, &edits, &file, bench_lent_evaluations, locks::evaluations, cells::evaluations);
         line(&format!("ray of 2, over lent sides, {points} points"), 1.0, 100000, &edits, &file, bench_rays, locks::rays, cells::rays);
     }
     for moves in [1, 100] {

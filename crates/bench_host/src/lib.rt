@@ -9,6 +9,8 @@ use control_point::small::closeness;
 use control_point::t_mesh_direction::TmeshDirection;
 use evaluation::evaluation::subs;
 use knot_vectors::knots::generate_knot_vectors;
+use lent_surface::lend;
+use lent_surface::lent_value;
 use map_insertion::add_control_point;
 use mesh_insertion::insert_into;
 use navigation::walk::Walk;
@@ -172,6 +174,31 @@ pub extern "C" fn bench_evaluations(edits: &[u8], repeats: u64) -> u64 {
         let answer = evaluated.answer;
         map = evaluated.map;
         let z = height(answer);
+        sum = sum + z;
+        s = 0.25 + z * 0.0625;
+        turn += 1;
+    }
+    float64::to_bits(sum)
+}
+
+// The same over the map lent once, its knots built before.
+#[no_mangle]
+pub extern "C" fn bench_lent_evaluations(edits: &[u8], repeats: u64) -> u64 {
+    let generated = generate_knot_vectors(map_of(edits));
+    let map = generated.map;
+    let knots = [0.0; 5];
+    let position = [0.0; 3];
+    let mut across = [knots; 128];
+    let mut upwards = [knots; 128];
+    let mut positions = [position; 128];
+    let mut listed = [false; 128];
+    lend(&mut across, &mut upwards, &mut positions, &mut listed, map);
+    let mut s = 0.25;
+    let mut sum = 0.0;
+    let mut turn: u64 = 0;
+    while turn < repeats {
+        let value = lent_value(&across, &upwards, &positions, &listed, s, 0.5);
+        let z = value.z;
         sum = sum + z;
         s = 0.25 + z * 0.0625;
         turn += 1;
