@@ -154,7 +154,7 @@ module _ (sides : Sides) (coordinates : List Float) (full : length coordinates �
       (ne-eqb other first apart)
 
 -- ---- a store's points held, through each change of it
-true-false : true ≡ false → ⊥
+pub true-false : true ≡ false → ⊥
 true-false e = let z : _≡_ {A = ℕ} 1 0 = ap (λ (b : Bool). cond b 1 0) e in omega (arith, z)
 
 module _ {points : Points} {rest : List TmeshControlPoint} (store : Store) (held : Held points rest store) where

@@ -2,23 +2,23 @@
 -- lent points hold, over that, those of the definition's mesh.
 use Prim.Native.Nat.{ℕ, _+_, _<_}
 use mathlib.Core.Path.{_≡_, refl, sym, ap, _∙_, subst}
-use mathlib.Core.Bool.{Bool, true, false, cond}
+use mathlib.Core.Bool.{Bool, true, false}
 use mathlib.Core.List.{List}
-use native.Mathlib.Omega.{arith}
 use lib.Ieee.{Float}
 use lib.ListN.{set}
 use Rattle.big_endian.specs.Written.{written}
 use Rattle.control_point.specs.declared.t_mesh_control_point.TmeshControlPoint.{TmeshControlPoint}
 use Rattle.store.specs.declared.store.Store.{Store}
 use Rattle.lent_points.specs.Lent.{Points, Held, Packs}
+use Rattle.lent_points.specs.LentLaws.{true-false}
 use Rattle.insertion.specs.Insert.{answerNumber, insertPoint}
 use Rattle.insertion.specs.InsertLaws.{refused-same}
 use Rattle.insertion.specs.Lent.{Inserts}
-use Rattle.insertion.specs.LentLaws.{inserted-made}
 use Rattle.insertion.specs.declared.insertion.InsertAnswer.{InsertAnswer}
 use Rattle.insertion.specs.declared.insertion.InsertAnswer.the-variants.{Done, Torn, Refused}
 use Rattle.insertion.specs.declared.insertion.Inserted.{Inserted}
 use Rattle.t_mesh.specs.Insertion.{isDone, isRefused, answeredMesh, insertIntoMesh}
+use Rattle.t_mesh.specs.InsertionLaws.{placed-made}
 use Rattle.t_mesh.specs.Tmesh.{storeOf, listedIn}
 use Rattle.t_mesh.specs.declared.add.InsertedMesh.{InsertedMesh}
 use Rattle.t_mesh.specs.declared.t_mesh.Mesh.{Mesh}
@@ -37,9 +37,6 @@ pub record RunningLent (e : Float) (bytes : List ℕ) (count : ℕ) (notes₀ : 
   pub points : List TmeshControlPoint
   pub held : Held lent (mesh .points) (record { points = points; made = mesh .made })
   pub running : Running e bytes count notes₀ (withMesh map (withPoints mesh points)) notes at n
-
-true-not : true ≡ false → ⊥
-true-not e = let z : _≡_ {A = ℕ} 1 0 = ap (λ (b : Bool). cond b 1 0) e in omega (arith, z)
 
 -- the mesh after an insertion that was not refused, its points left as they are
 abbrev pub meshPlaced : Mesh → Position → Bool → Mesh
@@ -72,9 +69,7 @@ module _ (e : Float) (bytes : List ℕ) (count : ℕ) (notes₀ : List ℕ) (map
 
       -- not refused, there is room for its point
       one-more : isRefused answer ≡ false → (mesh .made < 128) × (inserted .store .made ≡ mesh .made + 1)
-      one-more stands =
-          inserted-made e store (running .held .room) listed (edit .point) (edit .direction) (edit .ratio)
-          (λ refusal h. true-not (sym (ap isRefused (answered .0 ∙ h)) ∙ stands))
+      one-more stands = placed-made e store (running .held .room) listed (edit .point) (edit .direction) (edit .ratio) answer (answered .0) stands
 
       pub placed-room : isRefused answer ≡ false → mesh .made < 128
       placed-room stands = one-more stands .0
@@ -104,8 +99,8 @@ module _ (e : Float) (bytes : List ℕ) (count : ℕ) (notes₀ : List ℕ) (map
           where
             store-kept : (a : InsertAnswer) → a ≡ inserted .answer → isRefused a ≡ true → inserted .store ≡ store
             store-kept (Refused refusal) is h = refused-same e store listed (edit .point) (edit .direction) (edit .ratio) refusal (sym is)
-            store-kept (Done opened inferred) is h = absurd (true-not (sym h))
-            store-kept (Torn opened inferred met) is h = absurd (true-not (sym h))
+            store-kept (Done opened inferred) is h = absurd (true-false (sym h))
+            store-kept (Torn opened inferred met) is h = absurd (true-false (sym h))
 
             mesh-kept : edited-mesh .mesh ≡ withPoints mesh (running .points)
             mesh-kept = simp (sym (ap isRefused (answered .0)) ∙ refused)
