@@ -4,7 +4,7 @@ use mathlib.Core.Path.{_≡_, refl, sym, ap, _∙_}
 use mathlib.Core.Bool.{true}
 use borrow.Author.Tests.{eqb-true}
 use lib.Dec.{lit<}
-use Rattle.control_point.specs.Direction.{flipOf, directionNumber, directionNumbered, sameDirection}
+use Rattle.control_point.specs.Direction.{clockwiseOf, antiClockwiseOf, flipOf, directionNumber, directionNumbered, sameDirection}
 use Rattle.control_point.specs.declared.t_mesh_direction.TmeshDirection.{TmeshDirection}
 use Rattle.control_point.specs.declared.t_mesh_direction.TmeshDirection.the-variants.{Up, Right, Down, Left}
 
@@ -34,3 +34,10 @@ same-self Left = refl
 
 pub same-true : (d e : TmeshDirection) → sameDirection d e ≡ true → d ≡ e
 same-true d e h = sym (numbered-number d) ∙ ap directionNumbered (eqb-true (directionNumber d) (directionNumber e) h) ∙ numbered-number e
+
+-- anticlockwise is opposite to clockwise
+pub flip-clockwise : (d : TmeshDirection) → flipOf (clockwiseOf d) ≡ antiClockwiseOf d
+flip-clockwise Up = refl
+flip-clockwise Right = refl
+flip-clockwise Down = refl
+flip-clockwise Left = refl

@@ -1,6 +1,6 @@
 // A control point of a mesh: its four sides and its knot coordinates.
 ghost use mathlib.Core.Path.{_≡_};
-ghost use Rattle.control_point.specs.Point.{isLink, isBorder, isOpening, sideRefusal, sideOf, withSide, movedFrom, loosePoint, isMade};
+ghost use Rattle.control_point.specs.Point.{isLink, isBorder, isOpening, sideRefusal, sideOf, withSide, movedAcross, movedUpwards, movedFrom, loosePoint, isMade};
 use crate::refusal::Refusal;
 use crate::t_mesh_direction::TmeshDirection;
 
@@ -123,6 +123,30 @@ pub fn with_side(
     }
 }
 
+// A coordinate across, moved in a direction by an interval.
+pub fn moved_across(s: f64, direction: TmeshDirection, interval: f64) -> f64
+    ensures { λ r. ⌜ r ≡ movedAcross s direction interval ⌝ }
+{
+    match direction {
+        TmeshDirection::Up => s,
+        TmeshDirection::Right => s + interval,
+        TmeshDirection::Down => s,
+        TmeshDirection::Left => s - interval,
+    }
+}
+
+// A coordinate upwards, moved in a direction by an interval.
+pub fn moved_upwards(t: f64, direction: TmeshDirection, interval: f64) -> f64
+    ensures { λ r. ⌜ r ≡ movedUpwards t direction interval ⌝ }
+{
+    match direction {
+        TmeshDirection::Up => t + interval,
+        TmeshDirection::Right => t,
+        TmeshDirection::Down => t - interval,
+        TmeshDirection::Left => t,
+    }
+}
+
 // The point at the coordinates of another, moved in a direction by an interval.
 pub fn moved_from(
     point: TmeshControlPoint,
@@ -133,22 +157,8 @@ pub fn moved_from(
     ensures { λ r. ⌜ r ≡ movedFrom point from direction interval ⌝ }
 {
     let mut moved = point;
-    moved.s = from.s;
-    moved.t = from.t;
-    match direction {
-        TmeshDirection::Up => {
-            moved.t = from.t + interval;
-        }
-        TmeshDirection::Right => {
-            moved.s = from.s + interval;
-        }
-        TmeshDirection::Down => {
-            moved.t = from.t - interval;
-        }
-        TmeshDirection::Left => {
-            moved.s = from.s - interval;
-        }
-    }
+    moved.s = moved_across(from.s, direction, interval);
+    moved.t = moved_upwards(from.t, direction, interval);
     moved
 }
 

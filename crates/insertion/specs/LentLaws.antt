@@ -18,7 +18,6 @@ use Rattle.control_point.specs.declared.refusal.Refusal.{Refusal}
 use Rattle.control_point.specs.declared.t_mesh_control_point.Side.the-variants.{Border, Opening}
 use Rattle.control_point.specs.declared.t_mesh_control_point.TmeshControlPoint.{TmeshControlPoint}
 use Rattle.control_point.specs.declared.t_mesh_direction.TmeshDirection.{TmeshDirection}
-use Rattle.control_point.specs.declared.t_mesh_direction.TmeshDirection.the-variants.{Up, Right, Down, Left}
 use Rattle.lent_points.specs.Lent.{Points, pointsWithSide, pointsFrom, Held}
 use Rattle.lent_points.specs.LentLaws.{held-new, held-side, held-linked, held-agree}
 use Rattle.search.specs.SearchLaws.{found-agrees}
@@ -40,13 +39,6 @@ pub new-agrees : (e : Float) (made con p : ℕ) → isMade made con ≡ true →
 unfolding newSide
 new-agrees e made con p hc sides others agree f =
     rw (agree con f hc, found-agrees e made (sidesWith sides p f Opening) (sidesWith others p f Opening) (agree-with made sides others p f Opening agree) p f)
-
--- anticlockwise is opposite to clockwise
-pub flip-clockwise : (d : TmeshDirection) → flipOf (clockwiseOf d) ≡ antiClockwiseOf d
-flip-clockwise Up = refl
-flip-clockwise Right = refl
-flip-clockwise Down = refl
-flip-clockwise Left = refl
 
 -- ---- p placed
 module _ {points : Points} {rest : List TmeshControlPoint} (store : Store) (held : Held points rest store) (con other : ℕ) (hc : isMade (store .made) con ≡ true) (ho : isMade (store .made) other ≡ true) (roomy : store .made < 128) (d : TmeshDirection) where

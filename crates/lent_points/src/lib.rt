@@ -1,8 +1,8 @@
-// The points of a store, lent as arrays of numbers: their sides in three, and their coordinates in a fourth, s and t of each in turn.
+// The points of a store, lent as arrays of numbers: their sides in three, and their coordinates in a fourth, s and t of each in turn. That
+// the arrays have their length is a premise, which their type meets; those who own such arrays, in this repository, call these functions.
 ghost use mathlib.Core.Path.{_≡_};
 ghost use Prim.Native.Nat.{_<_};
 ghost use lib.ListN.{length};
-ghost use Rattle.control_point.specs.Point.{movedAcross, movedUpwards};
 ghost use Rattle.lent_points.specs.Lent.{lentPoints, pointsWith, pointsLinked, Room, Held, Packs, acrossAt, upwardsAt, coordinatesWith};
 use control_point::sides::put_point;
 use control_point::sides::put_side;
@@ -11,6 +11,8 @@ use control_point::sides::wide;
 use control_point::t_mesh_control_point::Side;
 use control_point::t_mesh_control_point::TmeshControlPoint;
 use control_point::t_mesh_control_point::is_made;
+use control_point::t_mesh_control_point::moved_across;
+use control_point::t_mesh_control_point::moved_upwards;
 use control_point::t_mesh_direction::TmeshDirection;
 
 fn across_at<'a>(coordinates: &'a [f64; 256], n: u8) -> f64
@@ -34,30 +36,6 @@ fn put_coordinates(coordinates: &mut [f64; 256], n: u8, s: f64, t: f64)
     let i = wide(n) * 2;
     coordinates[i] = s;
     coordinates[i + 1] = t;
-}
-
-// A coordinate across, moved in a direction by an interval.
-fn moved_across(s: f64, direction: TmeshDirection, interval: f64) -> f64
-    ensures { λ r. ⌜ r ≡ movedAcross s direction interval ⌝ }
-{
-    match direction {
-        TmeshDirection::Up => s,
-        TmeshDirection::Right => s + interval,
-        TmeshDirection::Down => s,
-        TmeshDirection::Left => s - interval,
-    }
-}
-
-// A coordinate upwards, moved in a direction by an interval.
-fn moved_upwards(t: f64, direction: TmeshDirection, interval: f64) -> f64
-    ensures { λ r. ⌜ r ≡ movedUpwards t direction interval ⌝ }
-{
-    match direction {
-        TmeshDirection::Up => t + interval,
-        TmeshDirection::Right => t,
-        TmeshDirection::Down => t - interval,
-        TmeshDirection::Left => t,
-    }
 }
 
 // The point under a number.

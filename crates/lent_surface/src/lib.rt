@@ -31,7 +31,7 @@ fn lend_point(
     positions[n] = place;
 }
 
-// A map, lent.
+// A map, lent. The type of the arrays meets the premise.
 pub fn lend(
     across: &mut [[f64; 5]; 128],
     upwards: &mut [[f64; 5]; 128],

@@ -18,7 +18,7 @@ use Rattle.insertion.specs.declared.insertion.InsertAnswer.{InsertAnswer}
 use Rattle.insertion.specs.declared.insertion.InsertAnswer.the-variants.{Done, Torn, Refused}
 use Rattle.insertion.specs.declared.insertion.Inserted.{Inserted}
 use Rattle.t_mesh.specs.Insertion.{isDone, isRefused, answeredMesh, insertIntoMesh}
-use Rattle.t_mesh.specs.InsertionLaws.{placed-made}
+use Rattle.t_mesh.specs.InsertionLaws.{placed-made, mesh-refused, mesh-placed}
 use Rattle.t_mesh.specs.Tmesh.{storeOf, listedIn}
 use Rattle.t_mesh.specs.declared.add.InsertedMesh.{InsertedMesh}
 use Rattle.t_mesh.specs.declared.t_mesh.Mesh.{Mesh}
@@ -103,19 +103,18 @@ module _ (e : Float) (bytes : List ℕ) (count : ℕ) (notes₀ : List ℕ) (map
             store-kept (Torn opened inferred met) is h = absurd (true-false (sym h))
 
             mesh-kept : edited-mesh .mesh ≡ withPoints mesh (running .points)
-            mesh-kept = simp (sym (ap isRefused (answered .0)) ∙ refused)
+            mesh-kept = sym (ap (λ (x : InsertedMesh). x .mesh) (mesh-refused (withPoints mesh (running .points)) (edit .position) answer inserted (answered .0) refused))
 
         pub lent-placed : isRefused answer ≡ false → (b : Bool) → b ≡ isDone answer → (mesh′ : Mesh) → mesh′ ≡ meshPlaced mesh (edit .position) b → RunningLent e bytes count notes₀ map mesh′ after notes′ next (n + 1)
         lent-placed stands b b-is mesh′ is =
             subst (λ (m : Mesh). RunningLent e bytes count notes₀ map m after notes′ next (n + 1)) (sym is) (record {
               points = inserted .store .points;
               held = subst (λ (made : ℕ). Held after (mesh .points) (record { points = inserted .store .points; made = made })) (one-more stands .1) (answered .1);
-              running = subst (λ (m : Mesh). Running e bytes count notes₀ (withMesh map m) notes′ next (n + 1)) mesh-placed next-running;
+              running = subst (λ (m : Mesh). Running e bytes count notes₀ (withMesh map m) notes′ next (n + 1)) mesh-new next-running;
             })
           where
-            mesh-placed : edited-mesh .mesh ≡ withPoints (meshPlaced mesh (edit .position) b) (inserted .store .points)
-            mesh-placed =
-                simp (sym (ap isRefused (answered .0)) ∙ stands)
-                (ap (λ (made : ℕ). record { points = inserted .store .points; made = made; positions = set (mesh .positions) (mesh .made) (edit .position); listed = set (mesh .listed) (mesh .made) (isDone (inserted .answer)) }) (one-more stands .1)
-                ∙ ap (λ (l : Bool). record { points = inserted .store .points; made = mesh .made + 1; positions = set (mesh .positions) (mesh .made) (edit .position); listed = set (mesh .listed) (mesh .made) l })
-                (sym (b-is ∙ ap isDone (answered .0))))
+            mesh-new : edited-mesh .mesh ≡ withPoints (meshPlaced mesh (edit .position) b) (inserted .store .points)
+            mesh-new =
+                sym
+                (ap (λ (x : InsertedMesh). x .mesh)
+                (mesh-placed (withPoints mesh (running .points)) (edit .position) (inserted .store .points) (mesh .made + 1) answer b inserted (answered .0) stands refl (sym (one-more stands .1)) b-is))

@@ -46,11 +46,11 @@ mesh-placed mesh position points made answer listed result is stands points-are 
     ∙ ap (λ (a : InsertAnswer). answeredMesh mesh position (record { answer = a; store = result .store })) is)
 
 -- a map with the mesh that an insertion left
-abbrev pub withMesh : Tmesh → InsertedMesh → Added
-withMesh map inserted =
+abbrev pub addedTo : Tmesh → InsertedMesh → Added
+addedTo map inserted =
     record { answer = inserted .answer; map = record { mesh = inserted .mesh; kept = keptAfter (map .kept) (inserted .answer); knots = map .knots } }
 
 pub added-by-mesh : (e : Float) (map : Tmesh) (con : ℕ) (d : TmeshDirection) (ratio : Float) (position : Position)
-    → withMesh map (insertIntoMesh e (map .mesh) con d ratio position) ≡ addControlPoint e map con d ratio position
+    → addedTo map (insertIntoMesh e (map .mesh) con d ratio position) ≡ addControlPoint e map con d ratio position
 unfolding insertIntoMesh addControlPoint
 added-by-mesh e map con d ratio position = refl

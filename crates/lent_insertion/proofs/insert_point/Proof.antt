@@ -6,6 +6,7 @@ use native.Mathlib.Omega.{arith}
 use denote.Ref.{now}
 use lib.Ieee.{Float}
 use Rattle.control_point.specs.Direction.{clockwiseOf, antiClockwiseOf, flipOf}
+use Rattle.control_point.specs.DirectionLaws.{flip-clockwise}
 use Rattle.control_point.specs.PointLaws.{isMade-made}
 use Rattle.control_point.specs.Sides.{Sides, lentSides}
 use Rattle.control_point.specs.declared.t_mesh_direction.TmeshDirection.{TmeshDirection}
@@ -14,7 +15,7 @@ use Rattle.lent_insertion.proofs.Told.{torn, untorn}
 use Rattle.insertion.specs.Insert.{newSide, unlessTorn, answerOf, checkedLink}
 use Rattle.insertion.specs.InsertLaws.{Passing, checked-passes}
 use Rattle.insertion.specs.Lent.{pointsWithNew, Inserts}
-use Rattle.insertion.specs.LentLaws.{Crossed, flip-clockwise, inserts-refused, inserts-passed}
+use Rattle.insertion.specs.LentLaws.{Crossed, inserts-refused, inserts-passed}
 use Rattle.insertion.specs.declared.insertion.NewSide.{NewSide}
 use Rattle.insertion.specs.declared.insertion.NewSide.the-variants.{Stays}
 use Rattle.insertion.specs.declared.insertion.Checked.the-variants.{Passed}

@@ -14,15 +14,6 @@ use Rattle.lent_points.specs.LentLaws.{from-linked, length-with}
 use borrow.Author.Needs.{needs}
 use Rattle.lent_points.proofs.link.Statement.{statement}
 use Rattle.lent_points.proofs.link.Tie as tie
-use Rattle.lent_points.proofs.link.Reads as reads
-use Rattle.lent_points.proofs.link.Lts as lts
-use Rattle.control_point.proofs.sides.put_side.Reads as put-side-reads
-use Rattle.control_point.proofs.t_mesh_direction.TmeshDirection.flip.Reads as flip-reads
-use Rattle.lent_points.proofs.across_at.Reads as across-at-reads
-use Rattle.lent_points.proofs.moved_across.Reads as moved-across-reads
-use Rattle.lent_points.proofs.moved_upwards.Reads as moved-upwards-reads
-use Rattle.lent_points.proofs.put_coordinates.Reads as put-coordinates-reads
-use Rattle.lent_points.proofs.upwards_at.Reads as upwards-at-reads
 
 -- the places
 abbrev upwards : tie.After-put-coordinates → tie.After-moved-upwards

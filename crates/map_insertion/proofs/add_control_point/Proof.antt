@@ -4,7 +4,7 @@ use mathlib.Core.Path.{_∙_, ap}
 use lib.Ieee.{Float}
 use Rattle.control_point.specs.Small.{millionth}
 use Rattle.t_mesh.specs.Insertion.{insertIntoMesh}
-use Rattle.t_mesh.specs.InsertionLaws.{withMesh, added-by-mesh}
+use Rattle.t_mesh.specs.InsertionLaws.{addedTo, added-by-mesh}
 use Rattle.map_insertion.proofs.add_control_point.Statement.{statement}
 use Rattle.map_insertion.proofs.add_control_point.Tie as tie
 
@@ -22,7 +22,7 @@ returns c =
     let i = c .before .before in
     let a = i .before .before .args in
     rw (c .kept-after .ensures)
-    (ap (withMesh (a .map))
+    (ap (addedTo (a .map))
     (i .insert-into .ensures
     ∙ ap (λ (e : Float). insertIntoMesh e (a .map .mesh) (a .con) (a .direction) (a .ratio) (a .position)) (i .before .closeness .ensures))
     ∙ added-by-mesh millionth (a .map) (a .con) (a .direction) (a .ratio) (a .position))

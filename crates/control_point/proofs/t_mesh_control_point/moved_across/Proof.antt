@@ -1,8 +1,8 @@
 use borrow.Author.Needs.{needs}
-use Rattle.lent_points.proofs.moved_across.Statement.{statement}
-use Rattle.lent_points.proofs.moved_across.Tie as tie
-use Rattle.lent_points.proofs.moved_across.Reads as reads
-use Rattle.lent_points.proofs.moved_across.Lts as lts
+use Rattle.control_point.proofs.t_mesh_control_point.moved_across.Statement.{statement}
+use Rattle.control_point.proofs.t_mesh_control_point.moved_across.Tie as tie
+use Rattle.control_point.proofs.t_mesh_control_point.moved_across.Reads as reads
+use Rattle.control_point.proofs.t_mesh_control_point.moved_across.Lts as lts
 
 enum-told : tie.Need-enum-told
 enum-told c = search needs
