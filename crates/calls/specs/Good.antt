@@ -72,7 +72,7 @@ abbrev pub GoodNewSide : NewSide → Type 0
 GoodNewSide (Takes weight) = NotNegative weight
 GoodNewSide (Joins n interval) = NotNegative interval
 GoodNewSide Opens = Unit {0}
-GoodNewSide (Tears refusal) = Unit {0}
+GoodNewSide Tears = Unit {0}
 GoodNewSide Stays = Unit {0}
 
 -- an entry of a ray

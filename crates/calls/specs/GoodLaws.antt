@@ -31,7 +31,7 @@ use Rattle.search.specs.declared.search.Judged.{Judged}
 use Rattle.search.specs.declared.search.Judged.the-variants.{On, Here, Ends, Fails}
 use Rattle.store.specs.Store.{storeSides, storePoint, withPoint, withSideAt, withNew, linked, settled, connectPoints}
 use Rattle.store.specs.declared.store.Store.{Store}
-use Rattle.insertion.specs.Insert.{inUnit, cut, pointInLine, placed, soughtSide, borderOr, newSide, withNewSide, unlessTorn, firstSide, withFirst, secondSide, sided, insertPoint}
+use Rattle.insertion.specs.Insert.{inUnit, cut, pointInLine, placed, soughtSide, borderOr, newSide, withNewSide, isTorn, unlessTorn, firstSide, withFirst, secondSide, sided, insertPoint}
 use Rattle.insertion.specs.declared.insertion.Inserted.{Inserted}
 use Rattle.insertion.specs.declared.insertion.NewSide.{NewSide}
 use Rattle.insertion.specs.declared.insertion.NewSide.the-variants.{Takes, Joins, Opens, Tears, Stays}
@@ -206,7 +206,7 @@ with-new-side store good p f (Takes weight) h = with-side-at store good p f (Bor
 with-new-side store good p f (Joins n interval) h =
     connect-points (withSideAt store p f Opening) (with-side-at store good p f Opening tt) p n f interval h
 with-new-side store good p f Opens h = with-side-at store good p f Opening tt
-with-new-side store good p f (Tears refusal) h = with-side-at store good p f Opening tt
+with-new-side store good p f Tears h = with-side-at store good p f Opening tt
 with-new-side store good p f Stays h = good
 
 module _ (e : Float) (store : Store) (good : GoodStore store) (con p : ℕ) (d : TmeshDirection) where
@@ -225,11 +225,7 @@ module _ (e : Float) (store : Store) (good : GoodStore store) (con p : ℕ) (d :
       (new-side e (storeSides (withFirst e store con p d)) (store .made) con p (antiClockwiseOf d) (store-sides (withFirst e store con p d) with-first))
     where
       unless : (first second : NewSide) → GoodNewSide second → GoodNewSide (unlessTorn first second)
-      unless (Takes weight) second h = h
-      unless (Joins n interval) second h = h
-      unless Opens second h = h
-      unless (Tears refusal) second h = tt
-      unless Stays second h = h
+      unless first second h = cond-case (isTorn first) GoodNewSide _ _ (λ _. tt) (λ _. h)
 
   both-sides : GoodStore (sided e store con p d .store)
   unfolding sided

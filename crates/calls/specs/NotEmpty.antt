@@ -114,7 +114,7 @@ inside =
 abbrev pub TornRun : Type 0
 TornRun =
     runOf millionth plate tornCalls
-    ≡ record { call = tearing; answer = inserted (Torn 1 0 BorderSide) }
+    ≡ record { call = tearing; answer = inserted (Torn 1 0) }
     ∷ (record { call = evaluation half half; answer = evaluated (Is inside) } ∷ [])
 
 -- the torn point stands in the mesh with its position, linked from point 0 at 0.0, and is not listed

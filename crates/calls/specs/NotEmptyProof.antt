@@ -35,7 +35,7 @@ PlacedInUnit axis (evaluation s t) = Unit {0}
 
 abbrev NotDone : Answer → Type 0
 NotDone (inserted (Done opened links)) = ⊥
-NotDone (inserted (Torn opened links met)) = Unit {0}
+NotDone (inserted (Torn opened links)) = Unit {0}
 NotDone (inserted (Refused refusal)) = Unit {0}
 NotDone (evaluated answer) = Unit {0}
 

@@ -102,7 +102,7 @@ module _ (bottomLeft bottomRight topRight topLeft position : Position) where
     -- ratio 1.0 from 0 Right: done, opened 1, inferred 0
     pub ratio-one : inserted plate 0 Right oneLiteral .answer ≡ Done 1 0
     -- ratio 0.0 from 0 Right: torn, opened 1, made 5, listed 4
-    pub ratio-zero : torn .answer ≡ Torn 1 0 BorderSide
+    pub ratio-zero : torn .answer ≡ Torn 1 0
     pub ratio-zero-made : storeOf (torn .map) .made ≡ 5
     pub ratio-zero-listed : countTrue (torn .map .mesh .listed) ≡ 4
     -- a next insertion from 4, in any direction: 2

@@ -131,7 +131,7 @@ insertion-sound axis e map sound con d ratio position =
         → Sound axis (afterInsertion map position answer store)
     by-answer (Done opened links) store good h =
         record { mesh = good; rows = sound .rows; points = listing true (λ _. h opened links refl) }
-    by-answer (Torn opened links met) store good h =
+    by-answer (Torn opened links) store good h =
         record { mesh = good; rows = sound .rows; points = listing false (λ e. absurd (false≢true e)) }
     by-answer (Refused refusal) store good h = sound
 
@@ -181,7 +181,7 @@ with-knots axis e map sound =
 
     kept : (rows : AllKnots) → GoodAll rows → Sound axis (keeping map rows .map)
     kept (all rows) h = record { mesh = sound .mesh; rows = h; points = sound .points }
-    kept (none refusal) h = record { mesh = sound .mesh; rows = sound .rows; points = sound .points }
+    kept (none refusal) h = sound
 
 pub evaluation-sound : (axis : Axis) (e : Float) (map : Tmesh) → Sound axis map → (s t : Float)
     → AnswerInUnit axis (evaluated (subsOf e map s t .answer)) × Sound axis (subsOf e map s t .map)

@@ -42,6 +42,6 @@ pub fn cross(
             NewSide::Joins(n, interval)
         }
         Found::Nothing => NewSide::Opens,
-        Found::Failed(refusal) => NewSide::Tears(refusal),
+        Found::Failed(_) => NewSide::Tears,
     }
 }

@@ -3,7 +3,7 @@
 -- it was. In each store, also one that no call makes: a number never made is 11; where the facing side of the other point is an
 -- opening, it stores no interval and the insertion is 3; a border's weight there counts as its interval, as in the source.
 use Prim.Native.Nat.{ℕ, _+_}
-use mathlib.Core.Bool.{Bool, true, false, cond, _&&_}
+use mathlib.Core.Bool.{Bool, true, false, cond, _&&_, _||_}
 use lib.Dec.{ltb}
 use lib.Ieee.{Float, binary64, le, sub, mul}
 use Rattle.float64.specs.Literals.{zeroLiteral, oneLiteral}
@@ -37,7 +37,7 @@ use Rattle.insertion.specs.declared.insertion.NewSide.the-variants.{Take
 -- its number: 0 done, 8 torn, or the refusal's
 abbrev pub answerNumber : InsertAnswer → ℕ
 answerNumber (Done opened inferred) = 0
-answerNumber (Torn opened inferred met) = 8
+answerNumber (Torn opened inferred) = 8
 answerNumber (Refused refusal) = refusalNumber refusal
 
 -- ---- the checks, in order
@@ -102,7 +102,7 @@ placed store con other d interval ratio = farJoined store con other d interval r
 abbrev pub soughtSide : Found → NewSide
 soughtSide (At n interval) = Joins n interval
 soughtSide Nothing = Opens
-soughtSide (Failed refusal) = Tears refusal
+soughtSide (Failed refusal) = Tears
 
 -- con's border, or else
 abbrev pub borderOr : Side → NewSide → NewSide
@@ -110,56 +110,57 @@ borderOr (Border weight) otherwise = Takes weight
 borderOr (Link n interval) otherwise = otherwise
 borderOr Opening otherwise = otherwise
 
--- if con has a border there, p takes its weight; else p's side is opened and the inferred link is sought
+-- p's side is opened and the inferred link is sought
+abbrev pub sought : Float → Sides → ℕ → ℕ → TmeshDirection → Found
+sought e sides made p f = findInferredConnection e (sidesWith sides p f Opening) made p f
+
+-- if con has a border there, p takes its weight; else it is what the search makes of it, and what a failed one met is no part of it
 unfoldable pub newSide : Float → Sides → ℕ → ℕ → ℕ → TmeshDirection → NewSide
-newSide e sides made con p f = borderOr (sides con f) (soughtSide (findInferredConnection e (sidesWith sides p f Opening) made p f))
+newSide e sides made con p f = borderOr (sides con f) (soughtSide (sought e sides made p f))
 
 -- the store with it
 abbrev pub withNewSide : Store → ℕ → TmeshDirection → NewSide → Store
 withNewSide store p f (Takes weight) = withSideAt store p f (Border weight)
 withNewSide store p f (Joins n interval) = connectPoints (withSideAt store p f Opening) p n f interval .store
 withNewSide store p f Opens = withSideAt store p f Opening
-withNewSide store p f (Tears refusal) = withSideAt store p f Opening
+withNewSide store p f Tears = withSideAt store p f Opening
 withNewSide store p f Stays = store
 
 -- ---- the two sides of p, clockwise first
+-- whether the search for it failed
+abbrev pub isTorn : NewSide → Bool
+isTorn (Takes weight) = false
+isTorn (Joins n interval) = false
+isTorn Opens = false
+isTorn Tears = true
+isTorn Stays = false
+
 -- the side after a first one: torn there, it stays the border that it is
 abbrev pub unlessTorn : NewSide → NewSide → NewSide
-unlessTorn (Takes weight) second = second
-unlessTorn (Joins n interval) second = second
-unlessTorn Opens second = second
-unlessTorn (Tears refusal) second = Stays
-unlessTorn Stays second = second
+unlessTorn first second = cond (isTorn first) Stays second
 
 -- the sides opened and the links inferred: 1 or 0 for a side
 abbrev pub openedCount : NewSide → ℕ
 openedCount (Takes weight) = 0
 openedCount (Joins n interval) = 1
 openedCount Opens = 1
-openedCount (Tears refusal) = 1
+openedCount Tears = 1
 openedCount Stays = 0
 
 abbrev pub inferredCount : NewSide → ℕ
 inferredCount (Takes weight) = 0
 inferredCount (Joins n interval) = 1
 inferredCount Opens = 0
-inferredCount (Tears refusal) = 0
+inferredCount Tears = 0
 inferredCount Stays = 0
 
--- a failed search is torn, with what it met
-abbrev pub tornOr : NewSide → ℕ → ℕ → InsertAnswer → InsertAnswer
-tornOr (Takes weight) opened inferred otherwise = otherwise
-tornOr (Joins n interval) opened inferred otherwise = otherwise
-tornOr Opens opened inferred otherwise = otherwise
-tornOr (Tears refusal) opened inferred otherwise = Torn opened inferred refusal
-tornOr Stays opened inferred otherwise = otherwise
+-- the counts of both sides, torn where either search failed
+abbrev pub countedAnswer : Bool → ℕ → ℕ → InsertAnswer
+countedAnswer torn opened inferred = cond torn (Torn opened inferred) (Done opened inferred)
 
-abbrev pub countedAnswer : NewSide → NewSide → ℕ → ℕ → InsertAnswer
-countedAnswer first second opened inferred = tornOr first opened inferred (tornOr second opened inferred (Done opened inferred))
-
--- the answer, by what both sides became
 abbrev pub answerOf : NewSide → NewSide → InsertAnswer
-answerOf first second = countedAnswer first second (openedCount first + openedCount second) (inferredCount first + inferredCount second)
+answerOf first second =
+    countedAnswer (isTorn first || isTorn second) (openedCount first + openedCount second) (inferredCount first + inferredCount second)
 
 -- in the store in which p stands: the first side, the store with it, and the second side
 unfoldable pub firstSide : Float → Store → ℕ → ℕ → TmeshDirection → NewSide

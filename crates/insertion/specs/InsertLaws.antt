@@ -2,7 +2,7 @@
 -- and so does that of an inferred link; the store after each is a linking.
 use Prim.Native.Nat.{ℕ, _<_, _+_}
 use mathlib.Core.Path.{_≡_, refl, sym, ap, _∙_}
-use mathlib.Core.Bool.{Bool, true, false, cond, _&&_}
+use mathlib.Core.Bool.{Bool, true, false, cond, _&&_, _||_}
 use mathlib.Core.List.{List}
 use native.Mathlib.Omega.{arith}
 use borrow.Author.Tests.{eqb-false, ltb-true, lt-ltb, ne-eqb, eq-eqb}
@@ -38,7 +38,7 @@ use Rattle.store.specs.Store.{storeSides, storePoint, withPoint, withSideAt, wi
 use Rattle.store.specs.StoreLaws.{side-read, room-kept, sides-side, sides-new, sides-linked}
 use Rattle.store.specs.declared.store.Changed.{Changed}
 use Rattle.store.specs.declared.store.Store.{Store}
-use Rattle.insertion.specs.Insert.{inUnit, checkedIntervals, checkedFacing, checkedSide, checked, checkedLink, cut, pointInLine, parted, nearJoined, farJoined, placed, soughtSide, borderOr, newSide, withNewSide, unlessTorn, openedCount, inferredCount, tornOr, answerOf, firstSide, withFirst, secondSide, sided, passed, insertPoint}
+use Rattle.insertion.specs.Insert.{inUnit, checkedIntervals, checkedFacing, checkedSide, checked, checkedLink, cut, pointInLine, parted, nearJoined, farJoined, placed, soughtSide, borderOr, newSide, withNewSide, isTorn, unlessTorn, openedCount, inferredCount, countedAnswer, answerOf, firstSide, withFirst, secondSide, sided, passed, insertPoint}
 use Rattle.insertion.specs.Lent.{madeSide}
 use Rattle.insertion.specs.declared.insertion.NewSide.{NewSide}
 use Rattle.insertion.specs.declared.insertion.NewSide.the-variants.{Takes, Joins, Opens, Tears, Stays}
@@ -82,7 +82,7 @@ abbrev pub MayJoin : Sides → ℕ → ℕ → TmeshDirection → NewSide → Ty
 MayJoin sides made p f (Takes weight) = Unit {0}
 MayJoin sides made p f (Joins n interval) = connectable (sidesWith sides p f Opening) made p n f ≡ Connected
 MayJoin sides made p f Opens = Unit {0}
-MayJoin sides made p f (Tears refusal) = Unit {0}
+MayJoin sides made p f Tears = Unit {0}
 MayJoin sides made p f Stays = Unit {0}
 
 module _ (sides : Sides) (made p : ℕ) (f : TmeshDirection) where
@@ -103,11 +103,11 @@ module _ (sides : Sides) (made p : ℕ) (f : TmeshDirection) where
       (found-joins (findInferredConnection e (sidesWith sides p f Opening) made p f) (found-connects e (sidesWith sides p f Opening) made p f))
 
   pub unless-joins : (first second : NewSide) → MayJoin sides made p f second → MayJoin sides made p f (unlessTorn first second)
-  unless-joins (Takes weight) second h = h
-  unless-joins (Joins n interval) second h = h
-  unless-joins Opens second h = h
-  unless-joins (Tears refusal) second h = tt
-  unless-joins Stays second h = h
+  unless-joins first second h = by-test (isTorn first)
+    where
+      by-test : (b : Bool) → MayJoin sides made p f (cond b Stays second)
+      by-test true = tt
+      by-test false = h
 
 module _ (store : Store) (room : length (store .points) ≡ 128) (p : ℕ) (h : p < 128) (f : TmeshDirection) where
   abbrev openedAt : Store
@@ -134,7 +134,7 @@ module _ (store : Store) (room : length (store .points) ≡ 128) (p : ℕ) (h : 
   made-new-side (Takes weight) j = refl
   made-new-side (Joins n interval) j = ap (λ (c : Changed). c .store .made) (joined-linked n interval j)
   made-new-side Opens j = refl
-  made-new-side (Tears refusal) j = refl
+  made-new-side Tears j = refl
   made-new-side Stays j = refl
 
   pub room-new-side : (side : NewSide) → MayJoin (storeSides store) (store .made) p f side → length (withNewSide store p f side .points) ≡ 128
@@ -142,7 +142,7 @@ module _ (store : Store) (room : length (store .points) ≡ 128) (p : ℕ) (h : 
   room-new-side (Joins n interval) j =
       ap (λ (c : Changed). length (c .store .points)) (joined-linked n interval j) ∙ rw (length-set, length-set, length-set) room
   room-new-side Opens j = room-opened
-  room-new-side (Tears refusal) j = room-opened
+  room-new-side Tears j = room-opened
   room-new-side Stays j = room
 
 -- ---- both sides of p
@@ -374,20 +374,13 @@ module _ (e : Float) (store : Store) (listed : Bool) (con : ℕ) (d : TmeshDirec
   insert-refused refusal h = rw h
 
 -- ---- REFUSED, THE STORE IS THE SAME
-torn-not : (side : NewSide) (opened inferred : ℕ) (otherwise : InsertAnswer) (refusal : Refusal) → (otherwise ≡ Refused refusal → ⊥) → tornOr side opened inferred otherwise ≡ Refused refusal → ⊥
-torn-not (Takes weight) opened inferred otherwise refusal h g = h g
-torn-not (Joins n interval) opened inferred otherwise refusal h g = h g
-torn-not Opens opened inferred otherwise refusal h g = h g
-torn-not (Tears met) opened inferred otherwise refusal h g = let z : _≡_ {A = ℕ} 0 1 = cc in omega arith
-torn-not Stays opened inferred otherwise refusal h g = h g
-
-done-not : (opened inferred : ℕ) (refusal : Refusal) → Done opened inferred ≡ Refused refusal → ⊥
-done-not opened inferred refusal g = let z : _≡_ {A = ℕ} 0 1 = cc in omega arith
+counted-not : (torn : Bool) (opened inferred : ℕ) (refusal : Refusal) → countedAnswer torn opened inferred ≡ Refused refusal → ⊥
+counted-not true opened inferred refusal g = let z : _≡_ {A = ℕ} 0 1 = cc in omega arith
+counted-not false opened inferred refusal g = let z : _≡_ {A = ℕ} 0 1 = cc in omega arith
 
 pub sided-answers : (e : Float) (store : Store) (con p : ℕ) (d : TmeshDirection) (refusal : Refusal) → sided e store con p d .answer ≡ Refused refusal → ⊥
 unfolding sided
-sided-answers e store con p d refusal =
-    torn-not (firstSide e store con p d) _ _ _ refusal (torn-not (secondSide e store con p d) _ _ _ refusal (done-not _ _ refusal))
+sided-answers e store con p d refusal = counted-not (isTorn (firstSide e store con p d) || isTorn (secondSide e store con p d)) _ _ refusal
 
 pub refused-same : (e : Float) (store : Store) (listed : Bool) (con : ℕ) (d : TmeshDirection) (ratio : Float) (refusal : Refusal)
     → insertPoint e store listed con d ratio .answer ≡ Refused refusal → insertPoint e store listed con d ratio .store ≡ store
@@ -406,12 +399,12 @@ pub opened-few : (side : NewSide) → openedCount side < 2
 opened-few (Takes weight) = lit< tt
 opened-few (Joins n interval) = lit< tt
 opened-few Opens = lit< tt
-opened-few (Tears refusal) = lit< tt
+opened-few Tears = lit< tt
 opened-few Stays = lit< tt
 
 pub inferred-few : (side : NewSide) → inferredCount side < 2
 inferred-few (Takes weight) = lit< tt
 inferred-few (Joins n interval) = lit< tt
 inferred-few Opens = lit< tt
-inferred-few (Tears refusal) = lit< tt
+inferred-few Tears = lit< tt
 inferred-few Stays = lit< tt

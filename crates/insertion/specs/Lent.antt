@@ -40,7 +40,7 @@ abbrev pub pointsWithNew : Points → ℕ → TmeshDirection → NewSide → Poi
 pointsWithNew points p f (Takes weight) = pointsWithSide points p f (Border weight)
 pointsWithNew points p f (Joins n interval) = pointsLinked (pointsWithSide points p f Opening) p n f interval
 pointsWithNew points p f Opens = pointsWithSide points p f Opening
-pointsWithNew points p f (Tears refusal) = pointsWithSide points p f Opening
+pointsWithNew points p f Tears = pointsWithSide points p f Opening
 pointsWithNew points p f Stays = points
 
 -- whatever store's points they were, of which so many are made, they are after it those of the store after the insertion, and the answer is its

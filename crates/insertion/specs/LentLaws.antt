@@ -74,7 +74,7 @@ module _ {points : Points} {rest : List TmeshControlPoint} (store : Store) (held
       (sym (joined-linked store (held .room) p (isMade-room (store .made) p hp) f n interval j))
       (held-linked (withSideAt store p f Opening) opened p n hp (connectable-other _ (store .made) p n f j .0) f interval)
   held-new-side Opens j = opened
-  held-new-side (Tears refusal) j = opened
+  held-new-side Tears j = opened
   held-new-side Stays j = held
 
 -- ---- the call, refused

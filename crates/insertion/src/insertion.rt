@@ -1,6 +1,6 @@
 // What an insertion finds and answers.
 ghost use mathlib.Core.Path.{_≡_};
-ghost use Rattle.insertion.specs.Insert.{answerNumber, openedCount, inferredCount, tornOr, answerOf};
+ghost use Rattle.insertion.specs.Insert.{answerNumber, openedCount, inferredCount, isTorn, answerOf};
 use control_point::refusal::Refusal;
 use store::store::Store;
 
@@ -16,7 +16,7 @@ pub enum NewSide {
     Takes(f64),
     Joins(u8, f64),
     Opens,
-    Tears(Refusal),
+    Tears,
     Stays,
 }
 
@@ -24,8 +24,8 @@ pub enum NewSide {
 pub enum InsertAnswer {
     // The sides opened and the links inferred.
     Done(u8, u8),
-    // The same, and what the failed search met.
-    Torn(u8, u8, Refusal),
+    // The same, where a search failed.
+    Torn(u8, u8),
     Refused(Refusal),
 }
 
@@ -36,7 +36,7 @@ impl InsertAnswer {
     {
         match self {
             InsertAnswer::Done(_, _) => 0,
-            InsertAnswer::Torn(_, _, _) => 8,
+            InsertAnswer::Torn(_, _) => 8,
             InsertAnswer::Refused(refusal) => refusal.number(),
         }
     }
@@ -54,7 +54,7 @@ fn opened_count(side: NewSide) -> u8
         NewSide::Takes(_) => 0,
         NewSide::Joins(_, _) => 1,
         NewSide::Opens => 1,
-        NewSide::Tears(_) => 1,
+        NewSide::Tears => 1,
         NewSide::Stays => 0,
     }
 }
@@ -66,20 +66,20 @@ fn inferred_count(side: NewSide) -> u8
         NewSide::Takes(_) => 0,
         NewSide::Joins(_, _) => 1,
         NewSide::Opens => 0,
-        NewSide::Tears(_) => 0,
+        NewSide::Tears => 0,
         NewSide::Stays => 0,
     }
 }
 
-fn torn_or(side: NewSide, opened: u8, inferred: u8, otherwise: InsertAnswer) -> InsertAnswer
-    ensures { λ r. ⌜ r ≡ tornOr side opened inferred otherwise ⌝ }
+fn is_torn(side: NewSide) -> bool
+    ensures { λ r. ⌜ r ≡ isTorn side ⌝ }
 {
     match side {
-        NewSide::Takes(_) => otherwise,
-        NewSide::Joins(_, _) => otherwise,
-        NewSide::Opens => otherwise,
-        NewSide::Tears(refusal) => InsertAnswer::Torn(opened, inferred, refusal),
-        NewSide::Stays => otherwise,
+        NewSide::Takes(_) => false,
+        NewSide::Joins(_, _) => false,
+        NewSide::Opens => false,
+        NewSide::Tears => true,
+        NewSide::Stays => false,
     }
 }
 
@@ -89,11 +89,11 @@ pub fn answer_of(first: NewSide, second: NewSide) -> InsertAnswer
 {
     let opened = opened_count(first) + opened_count(second);
     let inferred = inferred_count(first) + inferred_count(second);
-    let done = InsertAnswer::Done(opened, inferred);
-    torn_or(
-        first,
-        opened,
-        inferred,
-        torn_or(second, opened, inferred, done),
-    )
+    if is_torn(first) {
+        return InsertAnswer::Torn(opened, inferred);
+    }
+    if is_torn(second) {
+        return InsertAnswer::Torn(opened, inferred);
+    }
+    InsertAnswer::Done(opened, inferred)
 }

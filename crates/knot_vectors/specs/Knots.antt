@@ -1,5 +1,5 @@
 -- The knots of all listed points of a map (`generate_knot_vectors`), in the order of the numbers. The first refusal met is the answer,
--- and then none are kept. e is the closeness.
+-- and then the map is as it was. e is the closeness.
 use Prim.Native.Nat.{ℕ, zero, suc, _+_}
 use mathlib.Core.Bool.{Bool, true, false, cond}
 use mathlib.Core.List.{List}
@@ -45,10 +45,10 @@ rowsFrom e map (suc left) n rows = onAll (withRow e map n rows) (λ filled. rows
 unfoldable pub allKnots : Float → Tmesh → AllKnots
 allKnots e map = rowsFrom e map 128 0 (map .knots)
 
--- the map that keeps them, and the one that keeps none
+-- the map that keeps them; refused, the map as it was
 abbrev pub keeping : Tmesh → AllKnots → Generated
 keeping map (all rows) = record { outcome = Done; map = record { mesh = map .mesh; kept = true; knots = rows } }
-keeping map (none refusal) = record { outcome = Refused refusal; map = record { mesh = map .mesh; kept = false; knots = map .knots } }
+keeping map (none refusal) = record { outcome = Refused refusal; map = map }
 
 unfoldable pub generateKnotVectors : Float → Tmesh → Generated
 generateKnotVectors e map = keeping map (allKnots e map)
@@ -58,6 +58,7 @@ abbrev pub heldKnots : List PointKnots → AllKnots → ListedKnots
 heldKnots before (all rows) = record { outcome = Done; knots = rows }
 heldKnots before (none refusal) = record { outcome = Refused refusal; knots = before }
 
-abbrev pub isDone : Outcome → Bool
-isDone Done = true
-isDone (Refused refusal) = false
+-- whether knots are kept then: done, they are; refused, where they were
+abbrev pub keptBy : Bool → Outcome → Bool
+keptBy before Done = true
+keptBy before (Refused refusal) = before

@@ -18,7 +18,7 @@ use Rattle.store.specs.Store.{storeSides, storePoint}
 use Rattle.store.specs.declared.store.Store.{Store}
 use Rattle.t_mesh.specs.Tmesh.{storeOf, isListed}
 use Rattle.t_mesh.specs.declared.t_mesh.Tmesh.{Tmesh}
-use Rattle.knot_vectors.specs.Knots.{AllKnots, all, none, onAll, inRow, withRow, rowsFrom, keeping, heldKnots, isDone}
+use Rattle.knot_vectors.specs.Knots.{AllKnots, all, none, onAll, inRow, withRow, rowsFrom, keeping, heldKnots, keptBy}
 use Rattle.knot_vectors.specs.declared.knots.Generated.{Generated}
 use Rattle.knot_vectors.specs.declared.knots.ListedKnots.{ListedKnots}
 
@@ -64,7 +64,7 @@ module _ (e : Float) (map : Tmesh) (n : ℕ) (rows : List PointKnots) where
 
 -- ---- the map that keeps them
 abbrev pub keepingHeld : Tmesh → ListedKnots → Generated
-keepingHeld map held = record { outcome = held .outcome; map = record { mesh = map .mesh; kept = isDone (held .outcome); knots = held .knots } }
+keepingHeld map held = record { outcome = held .outcome; map = record { mesh = map .mesh; kept = keptBy (map .kept) (held .outcome); knots = held .knots } }
 
 pub keeping-held : (map : Tmesh) (rows : AllKnots) → keepingHeld map (heldKnots (map .knots) rows) ≡ keeping map rows
 keeping-held map (all rows) = refl

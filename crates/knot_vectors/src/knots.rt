@@ -4,7 +4,7 @@ ghost use Rattle.control_point.specs.Sides.{lentSides};
 ghost use Rattle.control_point.specs.Small.{millionth};
 ghost use Rattle.store.specs.Store.{storeSides};
 ghost use Rattle.t_mesh.specs.Tmesh.{storeOf};
-ghost use Rattle.knot_vectors.specs.Knots.{allKnots, isDone, heldKnots, generateKnotVectors};
+ghost use Rattle.knot_vectors.specs.Knots.{allKnots, keptBy, heldKnots, generateKnotVectors};
 use control_point::refusal::Outcome;
 use control_point::sides::fill;
 use control_point::small::closeness;
@@ -24,12 +24,13 @@ struct ListedKnots {
     knots: [PointKnots; 128],
 }
 
-fn is_done(outcome: Outcome) -> bool
-    ensures { λ r. ⌜ r ≡ isDone outcome ⌝ }
+// Whether knots are kept after building them.
+fn kept_by(before: bool, outcome: Outcome) -> bool
+    ensures { λ r. ⌜ r ≡ keptBy before outcome ⌝ }
 {
     match outcome {
         Outcome::Done => true,
-        Outcome::Refused(_) => false,
+        Outcome::Refused(_) => before,
     }
 }
 
@@ -92,7 +93,7 @@ pub fn generate_knot_vectors(mut map: Tmesh) -> Generated
     let built = listed_knots(closeness(), &kinds, &numbers, &intervals, map);
     let outcome = built.outcome;
     let knots = built.knots;
-    map.kept = is_done(outcome);
+    map.kept = kept_by(map.kept, outcome);
     map.knots = knots;
     Generated { outcome, map }
 }

@@ -64,7 +64,7 @@ pub fn insert_point(
                 made,
                 f,
             );
-            if let NewSide::Tears(_) = first {
+            if let NewSide::Tears = first {
                 return answer_of(first, NewSide::Stays);
             }
             let second = cross(

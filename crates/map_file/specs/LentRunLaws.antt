@@ -100,7 +100,7 @@ module _ (e : Float) (bytes : List ℕ) (count : ℕ) (notes₀ : List ℕ) (map
             store-kept : (a : InsertAnswer) → a ≡ inserted .answer → isRefused a ≡ true → inserted .store ≡ store
             store-kept (Refused refusal) is h = refused-same e store listed (edit .point) (edit .direction) (edit .ratio) refusal (sym is)
             store-kept (Done opened inferred) is h = absurd (true-false (sym h))
-            store-kept (Torn opened inferred met) is h = absurd (true-false (sym h))
+            store-kept (Torn opened inferred) is h = absurd (true-false (sym h))
 
             mesh-kept : edited-mesh .mesh ≡ withPoints mesh (running .points)
             mesh-kept = sym (ap (λ (x : InsertedMesh). x .mesh) (mesh-refused (withPoints mesh (running .points)) (edit .position) answer inserted (answered .0) refused))

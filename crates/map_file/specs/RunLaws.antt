@@ -36,7 +36,7 @@ withMesh map mesh = record { mesh = mesh; kept = map .kept; knots = map .knots }
 
 none-after : (kept : Bool) (answer : InsertAnswer) → kept ≡ false → keptAfter kept answer ≡ kept
 none-after kept (Done opened inferred) none = sym none
-none-after kept (Torn opened inferred met) none = refl
+none-after kept (Torn opened inferred) none = refl
 none-after kept (NotInserted refusal) none = refl
 
 module _ (e : Float) (map : Tmesh) (none : map .kept ≡ false) (edit : Edit) (done : InsertedMesh) (d : done ≡ meshEdited e (map .mesh) edit) where

@@ -16,7 +16,7 @@ fn kept_after(kept: bool, answer: InsertAnswer) -> bool
 {
     match answer {
         InsertAnswer::Done(_, _) => false,
-        InsertAnswer::Torn(_, _, _) => kept,
+        InsertAnswer::Torn(_, _) => kept,
         InsertAnswer::Refused(_) => kept,
     }
 }

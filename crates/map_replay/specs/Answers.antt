@@ -33,7 +33,7 @@ countsAreRight opened inferred call = eqb opened (byteAt call 36) && eqb inferre
 -- an insertion held against its stored answer
 unfoldable pub insertionJudged : InsertAnswer → List ℕ → Judged
 insertionJudged (Done opened inferred) call = record { right = eqb (byteAt call 35) 0 && countsAreRight opened inferred call; bytes = 38 }
-insertionJudged (Torn opened inferred met) call = record { right = eqb (byteAt call 35) 8 && countsAreRight opened inferred call; bytes = 38 }
+insertionJudged (Torn opened inferred) call = record { right = eqb (byteAt call 35) 8 && countsAreRight opened inferred call; bytes = 38 }
 insertionJudged (Refused refusal) call = record { right = eqb (byteAt call 35) (refusalNumber refusal); bytes = 36 }
 
 -- whether the first so many floats have the bits stored

@@ -37,7 +37,7 @@ pub fn judge_insertion(answer: InsertAnswer, call: &[u8]) -> Judged
             right: both(number == 0, counts_are_right(opened, inferred, call)),
             bytes: 38,
         },
-        InsertAnswer::Torn(opened, inferred, _) => Judged {
+        InsertAnswer::Torn(opened, inferred) => Judged {
             right: both(number == 8, counts_are_right(opened, inferred, call)),
             bytes: 38,
         },

@@ -18,34 +18,13 @@ use Rattle.store.specs.declared.store.Store.{Store}
 use Rattle.mirror.specs.Mirror.{Sound, Joining}
 use Rattle.mirror.specs.MirrorLaws.{mirrored-side, done-joining, sound-side, sound-linked}
 use Rattle.store.specs.StoreLaws.{sides-side}
-use Rattle.search.specs.Search.{findInferredConnection}
-use Rattle.search.specs.declared.search.Found.{Found}
-use Rattle.search.specs.declared.search.Found.the-variants.{At, Nothing, Failed}
-use Rattle.insertion.specs.Insert.{soughtSide, borderOr, newSide, withNewSide}
+use Rattle.insertion.specs.Insert.{sought, withNewSide}
 use Rattle.insertion.specs.InsertLaws.{MayJoin, joined-linked}
 use Rattle.insertion.specs.declared.insertion.NewSide.{NewSide}
 use Rattle.insertion.specs.declared.insertion.NewSide.the-variants.{Takes, Joins, Opens, Tears, Stays}
-use Rattle.soundness.specs.KnownLaws.{Known, KnownFound, known-search}
+use Rattle.soundness.specs.KnownLaws.{KnownFound, known-search}
 use Rattle.soundness.specs.LinkLaws.{with-turned, linked-first}
 use Rattle.soundness.specs.Theorems.{Connects}
-
--- a new side that is not torn by 11
-abbrev pub KnownSide : NewSide → Type 0
-KnownSide (Takes weight) = Unit {0}
-KnownSide (Joins n interval) = Unit {0}
-KnownSide Opens = Unit {0}
-KnownSide (Tears refusal) = Known refusal
-KnownSide Stays = Unit {0}
-
-known-sought : (found : Found) → KnownFound found → KnownSide (soughtSide found)
-known-sought (At n interval) known = tt
-known-sought Nothing known = tt
-known-sought (Failed refusal) known = known
-
-known-border : (side : Side) (otherwise : NewSide) → KnownSide otherwise → KnownSide (borderOr side otherwise)
-known-border (Link n interval) otherwise known = known
-known-border (Border weight) otherwise known = tt
-known-border Opening otherwise known = known
 
 -- a sound store after a change of the side f of p: as many points, and p's other sides as they were
 pub record Sided (store : Store) (p : ℕ) (f : TmeshDirection) (after : Store) : Type 0 where
@@ -62,22 +41,20 @@ module _ (store : Store) (sound : Sound store) (p : ℕ) (f : TmeshDirection) (p
   joins-connects (Joins n interval) joins =
       ap (λ (changed : Changed). changed .outcome) (joined-linked store (sound .room) p p-room f n interval joins)
   joins-connects Opens joins = tt
-  joins-connects (Tears refusal) joins = tt
+  joins-connects Tears joins = tt
   joins-connects Stays joins = tt
 
   -- a side that is no link
   module _ (free : isLink (storeSides store p f) ≡ false) where
-    pub known-new : (e : Float) (con : ℕ) → KnownSide (newSide e (storeSides store) (store .made) con p f)
-    unfolding newSide
-    known-new e con =
-        known-border (storeSides store con f) _
-        (known-sought (findInferredConnection e (sidesWith (storeSides store) p f Opening) (store .made) p f)
-        (known-search (sidesWith (storeSides store) p f Opening) (store .made) (sound .fits)
+    -- the search there does not meet 11
+    pub known-sought : (e : Float) → KnownFound (sought e (storeSides store) (store .made) p f)
+    known-sought e =
+        known-search (sidesWith (storeSides store) p f Opening) (store .made) (sound .fits)
         (mirrored-side (store .made) (storeSides store) p f Opening (sound .mirrored) free refl)
         e
         p
         f
-        p-made))
+        p-made
 
     abbrev opened : Store
     opened = withSideAt store p f Opening
@@ -108,5 +85,5 @@ module _ (store : Store) (sound : Sound store) (p : ℕ) (f : TmeshDirection) (p
         (done-joining (store .made) (storeSides opened) p n f
         (ap (λ (sides : Sides). connectable sides (store .made) p n f) (sides-side store (sound .room) p p-room f Opening) ∙ joins)))
     sided-new Opens joins = sided-side Opening refl
-    sided-new (Tears refusal) joins = sided-side Opening refl
+    sided-new Tears joins = sided-side Opening refl
     sided-new Stays joins = record { sound = sound; made-is = refl; turned = λ g turned. refl }

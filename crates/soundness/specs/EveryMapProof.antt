@@ -19,7 +19,7 @@ use Rattle.soundness.specs.FreshLaws.{sound-fresh}
 use Rattle.soundness.specs.InsertionLaws.{KnownAnswer}
 use Rattle.soundness.specs.KnownLaws.{MetOutcome, KnownWalk, known-walk}
 use Rattle.soundness.specs.KnownRayLaws.{KnownRay, known-ray, known-knots}
-use Rattle.soundness.specs.MapLaws.{SoundMesh, KnownEvaluation, insertion-known, insertion-places, generation-known, evaluation-known, sound-call, listing-call}
+use Rattle.soundness.specs.MapLaws.{SoundMesh, KnownEvaluation, insertion-known, insertion-seeks, insertion-places, generation-known, evaluation-known, sound-call, listing-call}
 use Rattle.soundness.specs.Theorems.{mapAfterAll, EveryMap, OneOf, EveryMapMirrored, ListedIsMade, ListingGrows, PlacingConnects, MeetsPoints, NoPointNever, EvaluationRefusals}
 
 sound-list : (e : Float) (calls : List Call) (map : Tmesh) → SoundMesh (map .mesh) → SoundMesh (mapAfterAll e map calls .mesh)
@@ -67,7 +67,7 @@ meets-points : (map : Tmesh) → SoundMesh (map .mesh) → MeetsPoints map
 meets-points map sound =
     record {
       adds = λ e con d ratio position is. true≢false (subst KnownAnswer is (insertion-known map sound e con d ratio position));
-      tears = λ e con d ratio position opened inferred is. true≢false (subst KnownAnswer is (insertion-known map sound e con d ratio position));
+      seeks = λ e con d ratio position passes. insertion-seeks map sound e con d ratio position passes;
       walks = λ n n-made travel watch is.
           false≢true (subst (KnownWalk (storeOf map .made)) is
           (known-walk (storeSides (storeOf map)) (storeOf map .made) (sound .sound .fits) (sound .sound .mirrored) n travel watch n-made));

@@ -2,7 +2,7 @@
 -- more.
 use Prim.Native.Nat.{ℕ, _<_, _+_}
 use mathlib.Core.Path.{_≡_, refl, sym, ap, _∙_, subst}
-use mathlib.Core.Bool.{Bool, true, false}
+use mathlib.Core.Bool.{Bool, true, false, _||_, true≢false}
 use native.Mathlib.Omega.{arith}
 use borrow.Author.Tests.{ltb-true}
 use lib.Dec.{ltb}
@@ -23,24 +23,22 @@ use Rattle.store.specs.Store.{storeSides, readSide}
 use Rattle.store.specs.declared.store.Store.{Store}
 use Rattle.mirror.specs.BoolLaws.{both-ways, cond-case}
 use Rattle.mirror.specs.Mirror.{MirrorOf, Sound}
-use Rattle.insertion.specs.Insert.{inUnit, checkedIntervals, checkedFacing, checkedSide, checked, placed, newSide, unlessTorn, tornOr, firstSide, withFirst, secondSide, sided, passed, insertPoint}
+use Rattle.insertion.specs.Insert.{inUnit, checkedIntervals, checkedFacing, checkedSide, checked, placed, sought, isTorn, countedAnswer, firstSide, withFirst, secondSide, sided, passed, insertPoint}
 use Rattle.insertion.specs.InsertLaws.{MayJoin, first-joins, second-joins}
-use Rattle.insertion.specs.declared.insertion.NewSide.{NewSide}
-use Rattle.insertion.specs.declared.insertion.NewSide.the-variants.{Takes, Joins, Opens, Tears, Stays}
 use Rattle.insertion.specs.declared.insertion.Checked.{Checked}
 use Rattle.insertion.specs.declared.insertion.InsertAnswer.{InsertAnswer}
 use Rattle.insertion.specs.declared.insertion.InsertAnswer.the-variants.{Done, Torn, Refused}
 use Rattle.insertion.specs.declared.insertion.Inserted.{Inserted}
 use Rattle.t_mesh.specs.Insertion.{isRefused}
-use Rattle.soundness.specs.AcrossLaws.{KnownSide, Sided, joins-connects, known-new, sided-new}
-use Rattle.soundness.specs.KnownLaws.{Known}
+use Rattle.soundness.specs.AcrossLaws.{Sided, joins-connects, known-sought, sided-new}
+use Rattle.soundness.specs.KnownLaws.{Known, KnownFound}
 use Rattle.soundness.specs.PlacingLaws.{Across, across-clockwise, across-anti, Placed, near-succeeds, far-succeeds, placed-sound}
-use Rattle.soundness.specs.Theorems.{Connects, Placing}
+use Rattle.soundness.specs.Theorems.{Connects, Placing, Seeking}
 
--- an answer that is not 11, nor torn by it
+-- an answer that is not 11
 abbrev pub KnownAnswer : InsertAnswer → Type 0
 KnownAnswer (Done opened inferred) = Unit {0}
-KnownAnswer (Torn opened inferred met) = Known met
+KnownAnswer (Torn opened inferred) = Unit {0}
 KnownAnswer (Refused refusal) = Known refusal
 
 -- a sound store of one point more
@@ -55,30 +53,20 @@ anti-turned Right = refl
 anti-turned Down = refl
 anti-turned Left = refl
 
--- the second side, and the answer, where no side is torn by 11
-known-unless : (first second : NewSide) → KnownSide second → KnownSide (unlessTorn first second)
-known-unless (Takes weight) second known = known
-known-unless (Joins n interval) second known = known
-known-unless Opens second known = known
-known-unless (Tears refusal) second known = tt
-known-unless Stays second known = known
-
-known-torn : (new : NewSide) (opened inferred : ℕ) (otherwise : InsertAnswer) → KnownSide new → KnownAnswer otherwise
-    → KnownAnswer (tornOr new opened inferred otherwise)
-known-torn (Takes weight) opened inferred otherwise side known = known
-known-torn (Joins n interval) opened inferred otherwise side known = known
-known-torn Opens opened inferred otherwise side known = known
-known-torn (Tears refusal) opened inferred otherwise side known = side
-known-torn Stays opened inferred otherwise side known = known
+-- done or torn
+known-counted : (torn : Bool) (opened inferred : ℕ) → KnownAnswer (countedAnswer torn opened inferred)
+known-counted true opened inferred = tt
+known-counted false opened inferred = tt
 
 -- ---- the two sides of a point p that stands in a link in direction d
--- both connect where they join, and leave a sound store of as many points and an answer that is not 11
+-- their searches do not meet 11; both connect where they join, and leave a sound store of as many points
 pub record BothSided (e : Float) (store : Store) (con p : ℕ) (d : TmeshDirection) : Type 0 where
   pub first : Connects store p (clockwiseOf d) (firstSide e store con p d)
   pub second : Connects (withFirst e store con p d) p (antiClockwiseOf d) (secondSide e store con p d)
   pub sound : Sound (sided e store con p d .store)
   pub made-is : sided e store con p d .store .made ≡ store .made
-  pub known : KnownAnswer (sided e store con p d .answer)
+  pub first-sought : KnownFound (sought e (storeSides store) (store .made) p (clockwiseOf d))
+  pub second-sought : KnownFound (sought e (storeSides (withFirst e store con p d)) (store .made) p (antiClockwiseOf d))
 
 module _ (e : Float) (store : Store) (con p : ℕ) (d : TmeshDirection) (sound : Sound store) (p-made : p < store .made)
     (free : (f : TmeshDirection) → Across d f → isLink (storeSides store p f) ≡ false) where
@@ -88,10 +76,6 @@ module _ (e : Float) (store : Store) (con p : ℕ) (d : TmeshDirection) (sound :
   -- the first
   clockwise-free : isLink (storeSides store p (clockwiseOf d)) ≡ false
   clockwise-free = free (clockwiseOf d) (across-clockwise d)
-
-  first-known : KnownSide (firstSide e store con p d)
-  unfolding firstSide
-  first-known = known-new store sound p (clockwiseOf d) p-made clockwise-free e con
 
   first-joining : MayJoin (storeSides store) (store .made) p (clockwiseOf d) (firstSide e store con p d)
   first-joining = first-joins e store (sound .room) con p p-room d
@@ -110,13 +94,6 @@ module _ (e : Float) (store : Store) (con p : ℕ) (d : TmeshDirection) (sound :
   anti-free : isLink (storeSides half p (antiClockwiseOf d)) ≡ false
   anti-free = ap isLink (first-sided .turned (antiClockwiseOf d) (anti-turned d)) ∙ free (antiClockwiseOf d) (across-anti d)
 
-  second-known : KnownSide (secondSide e store con p d)
-  unfolding secondSide
-  second-known =
-      known-unless (firstSide e store con p d) _
-      (subst (λ (made : ℕ). KnownSide (newSide e (storeSides half) made con p (antiClockwiseOf d))) (first-sided .made-is)
-      (known-new half (first-sided .sound) p (antiClockwiseOf d) half-made anti-free e con))
-
   second-joining : MayJoin (storeSides half) (half .made) p (antiClockwiseOf d) (secondSide e store con p d)
   second-joining = second-joins e store (sound .room) con p p-room d
 
@@ -125,15 +102,22 @@ module _ (e : Float) (store : Store) (con p : ℕ) (d : TmeshDirection) (sound :
   second-sided = sided-new half (first-sided .sound) p (antiClockwiseOf d) half-made anti-free (secondSide e store con p d) second-joining
 
   pub both-sided : BothSided e store con p d
-  unfolding sided
   both-sided =
       record {
         first = joins-connects store sound p (clockwiseOf d) p-made (firstSide e store con p d) first-joining;
         second = joins-connects half (first-sided .sound) p (antiClockwiseOf d) half-made (secondSide e store con p d) second-joining;
         sound = second-sided .sound;
         made-is = second-sided .made-is ∙ first-sided .made-is;
-        known = known-torn (firstSide e store con p d) _ _ _ first-known (known-torn (secondSide e store con p d) _ _ _ second-known tt);
+        first-sought = known-sought store sound p (clockwiseOf d) p-made clockwise-free e;
+        second-sought =
+            subst (λ (made : ℕ). KnownFound (sought e (storeSides half) made p (antiClockwiseOf d))) (first-sided .made-is)
+            (known-sought half (first-sided .sound) p (antiClockwiseOf d) half-made anti-free e);
       }
+
+-- done or torn, it is not 11
+answer-known : (e : Float) (store : Store) (con p : ℕ) (d : TmeshDirection) → KnownAnswer (sided e store con p d .answer)
+unfolding sided
+answer-known e store con p d = known-counted (isTorn (firstSide e store con p d) || isTorn (secondSide e store con p d)) _ _
 
 -- ---- the checks
 -- what holds of every refusal but 11, and of every point placed in a link of a made point, holds of an insertion
@@ -189,9 +173,10 @@ module _ (e : Float) (store : Store) (sound : Sound store) (listed : Bool) (con 
         (λ u. refuses Ratio refl)
 
 -- ---- the whole insertion
--- what came of it: not 11; where it passed the checks, its connects are done and the store is sound, of one point more
+-- what came of it: not 11; where it passed the checks, its searches do not meet 11, its connects are done and the store is sound, of one point more
 pub record Inserts (e : Float) (store : Store) (con : ℕ) (d : TmeshDirection) (ratio : Float) (result : Inserted) : Type 0 where
   pub known : KnownAnswer (result .answer)
+  pub seeking : isRefused (result .answer) ≡ false → Seeking e store con d ratio result
   pub placing : isRefused (result .answer) ≡ false → Placing e store con d ratio result
   pub grown : isRefused (result .answer) ≡ false → Grown store (result .store)
 
@@ -200,7 +185,15 @@ module _ (e : Float) (store : Store) (sound : Sound store) (con : ℕ) (d : Tmes
       → Inserts e store con d ratio (sided e (placed store con other d interval ratio) con (store .made) d)
   inserts-placed other interval con-made link roomy =
       record {
-        known = sides .known;
+        known = sided-known;
+        seeking = λ passes.
+            record {
+              other = other;
+              interval = interval;
+              is = refl;
+              first = λ is. true≢false (subst KnownFound is (sides .first-sought));
+              second = λ is. true≢false (subst KnownFound is (sides .second-sought));
+            };
         placing = λ passes.
             record {
               other = other;
@@ -218,6 +211,9 @@ module _ (e : Float) (store : Store) (sound : Sound store) (con : ℕ) (d : Tmes
       after : Store
       after = placed store con other d interval ratio
 
+      sided-known : KnownAnswer (sided e after con (store .made) d .answer)
+      sided-known = answer-known e after con (store .made) d
+
       stands : Placed store d after
       stands = placed-sound store sound con other d interval con-made link roomy ratio
 
@@ -226,7 +222,7 @@ module _ (e : Float) (store : Store) (sound : Sound store) (con : ℕ) (d : Tmes
 
   inserts-refused : (refusal : Refusal) → Known refusal → Inserts e store con d ratio (record { answer = Refused refusal; store = store })
   inserts-refused refusal known =
-      record { known = known; placing = λ passes. both-ways true refl passes; grown = λ passes. both-ways true refl passes }
+      record { known = known; seeking = λ passes. both-ways true refl passes; placing = λ passes. both-ways true refl passes; grown = λ passes. both-ways true refl passes }
 
   pub inserts : (listed : Bool) → (listed ≡ true → con < store .made) → Inserts e store con d ratio (insertPoint e store listed con d ratio)
   inserts listed listed-made =

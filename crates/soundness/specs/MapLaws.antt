@@ -36,7 +36,7 @@ use Rattle.calls.specs.Calls.{Call, insertion, evaluation, answerTo, mapAfter}
 use Rattle.soundness.specs.InsertionLaws.{KnownAnswer, Grown, Inserts, inserts}
 use Rattle.soundness.specs.KnownLaws.{Met, MetOutcome}
 use Rattle.soundness.specs.KnownRayLaws.{known-knots}
-use Rattle.soundness.specs.Theorems.{Placing, listsPoint}
+use Rattle.soundness.specs.Theorems.{Placing, Seeking, listsPoint}
 
 -- a sound store whose listed numbers are made
 pub record SoundMesh (mesh : Mesh) : Type 0 where
@@ -100,13 +100,13 @@ module _ (map : Tmesh) (mesh-sound : SoundMesh (map .mesh)) where
   listing-after : (position : Position) (answer : InsertAnswer) (store : Store) → (isRefused answer ≡ false → Grown (storeOf map) store) → (n : ℕ)
       → isListed (afterInsertion map position answer store) n ≡ ((isDone answer && eqb n (storeOf map .made)) || isListed map n)
   listing-after position (Added opened inferred) store grown n = listing-placed true (grown refl .roomy) n
-  listing-after position (Torn opened inferred met) store grown n = listing-placed false (grown refl .roomy) n
+  listing-after position (Torn opened inferred) store grown n = listing-placed false (grown refl .roomy) n
   listing-after position (NotAdded refusal) store grown n = refl
 
   sound-after : (position : Position) (answer : InsertAnswer) (store : Store) → (isRefused answer ≡ false → Grown (storeOf map) store)
       → SoundMesh (afterInsertion map position answer store .mesh)
   sound-after position (Added opened inferred) store grown = sound-placed true position store (grown refl)
-  sound-after position (Torn opened inferred met) store grown = sound-placed false position store (grown refl)
+  sound-after position (Torn opened inferred) store grown = sound-placed false position store (grown refl)
   sound-after position (NotAdded refusal) store grown = mesh-sound
 
   module _ (e : Float) (con : ℕ) (d : TmeshDirection) (ratio : Float) where
@@ -121,6 +121,11 @@ module _ (map : Tmesh) (mesh-sound : SoundMesh (map .mesh)) where
       pub insertion-known : KnownAnswer (addControlPoint e map con d ratio position .answer)
       unfolding addControlPoint result
       insertion-known = result-inserts .known
+
+      pub insertion-seeks : isRefused (addControlPoint e map con d ratio position .answer) ≡ false
+          → Seeking e (storeOf map) con d ratio (insertPoint e (storeOf map) (isListed map con) con d ratio)
+      unfolding addControlPoint result
+      insertion-seeks = result-inserts .seeking
 
       pub insertion-places : isRefused (addControlPoint e map con d ratio position .answer) ≡ false
           → Placing e (storeOf map) con d ratio (insertPoint e (storeOf map) (isListed map con) con d ratio)

@@ -20,12 +20,13 @@ use Rattle.navigation.specs.declared.walk.Walk.the-variants.{Refused as NoWalk}
 use Rattle.store.specs.Store.{storeSides, withSideAt, connectPoints, navigateUntilCon}
 use Rattle.store.specs.declared.store.Store.{Store}
 use Rattle.mirror.specs.Mirror.{Sound}
-use Rattle.insertion.specs.Insert.{nearJoined, farJoined, placed, firstSide, withFirst, secondSide, sided, insertPoint}
+use Rattle.insertion.specs.Insert.{nearJoined, farJoined, placed, sought, firstSide, withFirst, secondSide, sided, insertPoint}
 use Rattle.insertion.specs.declared.insertion.NewSide.{NewSide}
 use Rattle.insertion.specs.declared.insertion.NewSide.the-variants.{Takes, Joins, Opens, Tears, Stays}
 use Rattle.insertion.specs.declared.insertion.Inserted.{Inserted}
-use Rattle.insertion.specs.declared.insertion.InsertAnswer.the-variants.{Torn, Refused as NotAdded}
+use Rattle.insertion.specs.declared.insertion.InsertAnswer.the-variants.{Refused as NotAdded}
 use Rattle.ray.specs.Knots.{pointKnotVectors}
+use Rattle.search.specs.declared.search.Found.the-variants.{Failed}
 use Rattle.ray.specs.Ray.{refused, rayOf}
 use Rattle.t_mesh.specs.Insertion.{isDone, isRefused, addControlPoint}
 use Rattle.t_mesh.specs.Tmesh.{storeOf, isListed, newTmesh}
@@ -77,7 +78,7 @@ abbrev pub Connects : Store → ℕ → TmeshDirection → NewSide → Type 0
 Connects store p f (Takes weight) = Unit {0}
 Connects store p f (Joins n interval) = connectPoints (withSideAt store p f Opening) p n f interval .outcome ≡ Done
 Connects store p f Opens = Unit {0}
-Connects store p f (Tears refusal) = Unit {0}
+Connects store p f Tears = Unit {0}
 Connects store p f Stays = Unit {0}
 
 -- what came of an insertion into the link from con in direction d, all of whose connects are done: con's with the new point, the new
@@ -109,13 +110,23 @@ PlacingConnects =
     → Placing e (storeOf map) con d ratio (insertPoint e (storeOf map) (isListed map con) con d ratio))
 
 -- ---- 11, no point
--- no call on a map meets 11: no insertion is refused so, nor torn by a search that met it; no walk, no ray of any length and no building of
+-- what came of an insertion that passed its checks, neither of whose searches fails by 11: that for p's clockwise side, and that for the
+-- anticlockwise one in the store with the first
+pub record Seeking (e : Float) (store : Store) (con : ℕ) (d : TmeshDirection) (ratio : Float) (result : Inserted) : Type 0 where
+  pub other : ℕ
+  pub interval : Float
+  pub is : result ≡ sided e (placed store con other d interval ratio) con (store .made) d
+  pub first : sought e (storeSides (placed store con other d interval ratio)) (placed store con other d interval ratio .made) (store .made) (clockwiseOf d) ≡ Failed NoPoint → ⊥
+  pub second : sought e (storeSides (withFirst e (placed store con other d interval ratio) con (store .made) d)) (placed store con other d interval ratio .made) (store .made) (antiClockwiseOf d) ≡ Failed NoPoint → ⊥
+
+-- no call on a map meets 11: no insertion is refused so, nor does a search of it fail so; no walk, no ray of any length and no building of
 -- knots from a made point is refused so; nor are the building of all knots and an evaluation
 pub record MeetsPoints (map : Tmesh) : Type 0 where
   pub adds : (e : Float) (con : ℕ) (d : TmeshDirection) (ratio : Float) (position : Position)
       → addControlPoint e map con d ratio position .answer ≡ NotAdded NoPoint → ⊥
-  pub tears : (e : Float) (con : ℕ) (d : TmeshDirection) (ratio : Float) (position : Position) (opened inferred : ℕ)
-      → addControlPoint e map con d ratio position .answer ≡ Torn opened inferred NoPoint → ⊥
+  pub seeks : (e : Float) (con : ℕ) (d : TmeshDirection) (ratio : Float) (position : Position)
+      → isRefused (addControlPoint e map con d ratio position .answer) ≡ false
+      → Seeking e (storeOf map) con d ratio (insertPoint e (storeOf map) (isListed map con) con d ratio)
   pub walks : (n : ℕ) → n < storeOf map .made → (travel watch : TmeshDirection)
       → navigateUntilCon (storeOf map) n travel watch ≡ NoWalk NoPoint → ⊥
   pub casts : (n : ℕ) → n < storeOf map .made → (e : Float) (d : TmeshDirection) (length : ℕ)

@@ -21,12 +21,12 @@ use Rattle.t_mesh.specs.declared.add.InsertedMesh.{InsertedMesh}
 -- whether it is done, and whether it is refused; torn is neither
 abbrev pub isDone : InsertAnswer → Bool
 isDone (Done opened inferred) = true
-isDone (Torn opened inferred met) = false
+isDone (Torn opened inferred) = false
 isDone (Refused refusal) = false
 
 abbrev pub isRefused : InsertAnswer → Bool
 isRefused (Done opened inferred) = false
-isRefused (Torn opened inferred met) = false
+isRefused (Torn opened inferred) = false
 isRefused (Refused refusal) = true
 
 -- ---- the mesh
@@ -54,7 +54,7 @@ insertIntoMesh e mesh con d ratio position =
 -- whether kept knots are still kept: done, they are dropped
 abbrev pub keptAfter : Bool → InsertAnswer → Bool
 keptAfter kept (Done opened inferred) = false
-keptAfter kept (Torn opened inferred met) = kept
+keptAfter kept (Torn opened inferred) = kept
 keptAfter kept (Refused refusal) = kept
 
 -- after an insertion, by its answer and the store that it left

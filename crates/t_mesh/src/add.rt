@@ -22,7 +22,7 @@ pub fn is_done(answer: InsertAnswer) -> bool
 {
     match answer {
         InsertAnswer::Done(_, _) => true,
-        InsertAnswer::Torn(_, _, _) => false,
+        InsertAnswer::Torn(_, _) => false,
         InsertAnswer::Refused(_) => false,
     }
 }
@@ -32,7 +32,7 @@ pub fn is_refused(answer: InsertAnswer) -> bool
 {
     match answer {
         InsertAnswer::Done(_, _) => false,
-        InsertAnswer::Torn(_, _, _) => false,
+        InsertAnswer::Torn(_, _) => false,
         InsertAnswer::Refused(_) => true,
     }
 }

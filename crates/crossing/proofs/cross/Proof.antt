@@ -100,8 +100,8 @@ link-requires c κs =
 enum-told : tie.Need-enum-told
 enum-told c = search needs
 
-enum-known-found-2 : tie.Need-enum-known-found-2
-enum-known-found-2 c = search needs
+enum-told-2 : tie.Need-enum-told-2
+enum-told-2 c = search needs
 
 returns-2 : tie.Need-returns-2
 returns-2 c =
@@ -123,9 +123,9 @@ returns-3 c =
 
 returns-4 : tie.Need-returns-4
 returns-4 c =
-    let u = c .before .before .before in
+    let u = c .before .before in
     let o = opened-of u in
-    (sym (sought u ∙ ap soughtSide (c .before .found2 .given .1)), ((o .put-side2 .ensures .0, begun (read-of o) .pre .1 .1), opened-is o))
+    (sym (sought u ∙ ap soughtSide (c .enum-told2 .given .1)), ((o .put-side2 .ensures .0, begun (read-of o) .pre .1 .1), opened-is o))
 
 pub cross-spec : {M : Type 1} → statement M
 cross-spec =
@@ -140,7 +140,7 @@ cross-spec =
     enum-known-found
     link-requires
     enum-told
-    enum-known-found-2
+    enum-told-2
     returns-2
     returns-3
     returns-4)

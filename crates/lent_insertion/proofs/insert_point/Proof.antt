@@ -133,7 +133,7 @@ returns : tie.Need-returns
 returns c =
     let t = c .before in
     let x = t .before .before in
-    (x .cross .ensures .1 .0, inserts x Stays _ (torn (x .cross .result) _ _ (t .enum-told .given .1)) refl _ (c .answer-of .ensures))
+    (x .cross .ensures .1 .0, inserts x Stays _ (torn (x .cross .result) _ (t .enum-told .given .1)) refl _ (c .answer-of .ensures))
 
 add-cross-2 : tie.Need-add-cross-2
 add-cross-2 c = omega (arith, passing (passed-of (c .before .before .before .before .before)) .roomy)

@@ -1,4 +1,4 @@
--- `generate_knot_vectors` meets its contract: the filled arrays are the store's sides, and the map keeps what was built over them.
+-- `generate_knot_vectors` meets its contract: the filled arrays are the store's sides, and the map keeps what was built over them, or what it kept.
 use borrow.Author.Needs.{needs}
 use mathlib.Core.Path.{_∙_, ap}
 use lib.Ieee.{Float}
@@ -17,8 +17,8 @@ closeness-requires c κs = search needs
 listed-knots-requires : tie.Need-listed-knots-requires
 listed-knots-requires c κs = c .before .before .before .before .fill .ensures .1
 
-is-done-requires : tie.Need-is-done-requires
-is-done-requires c κs = search needs
+kept-by-requires : tie.Need-kept-by-requires
+kept-by-requires c κs = search needs
 
 returns : tie.Need-returns
 unfolding generateKnotVectors
@@ -26,11 +26,11 @@ returns c =
     let k = c .before .before in
     let e = k .before .before .before .before in
     let a = e .before .before .before .before .before .before .args in
-    rw (c .is-done .ensures)
+    rw (c .kept-by .ensures)
     (ap (keepingHeld (a .map))
     (k .listed-knots .ensures ∙ ap (λ (x : Float). heldKnots (a .map .knots) (allKnots x (a .map))) (e .closeness .ensures))
     ∙ keeping-held (a .map) (allKnots millionth (a .map)))
 
 pub generate-knot-vectors-spec : {M : Type 1} → statement M
 generate-knot-vectors-spec =
-    tie.close (tie.spec fill-requires closeness-requires listed-knots-requires is-done-requires returns)
+    tie.close (tie.spec fill-requires closeness-requires listed-knots-requires kept-by-requires returns)
