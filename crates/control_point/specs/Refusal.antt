@@ -1,9 +1,9 @@
--- The answer numbers of document 01, for its words. 0 is no refusal.
+-- The answer numbers of documents 01 (1 to 16) and 02 (17 to 27), for their words. 0 is no refusal.
 use Prim.Native.Nat.{ℕ}
 use Rattle.control_point.specs.declared.refusal.Outcome.{Outcome}
 use Rattle.control_point.specs.declared.refusal.Outcome.the-variants.{Done, Refused}
 use Rattle.control_point.specs.declared.refusal.Refusal.{Refusal}
-use Rattle.control_point.specs.declared.refusal.Refusal.the-variants.{Ratio, Foreign, OpenSide, BorderSide, Taken, Interval, Itself, Torn, Ring, Full, NoPoint, Length, Version, Heading, NoWeight, Short}
+use Rattle.control_point.specs.declared.refusal.Refusal.the-variants.{Ratio, Foreign, OpenSide, BorderSide, Taken, Interval, Itself, Torn, Ring, Full, NoPoint, Length, Version, Heading, NoWeight, Short, Pull, Clash, Shut, OffMap, Seed, TooMany, UnlikeHeads, TooLong, Closeness, Ticks, Doubled}
 
 abbrev pub refusalNumber : Refusal → ℕ
 refusalNumber Ratio = 1
@@ -22,6 +22,17 @@ refusalNumber Version = 13
 refusalNumber Heading = 14
 refusalNumber NoWeight = 15
 refusalNumber Short = 16
+refusalNumber Pull = 17
+refusalNumber Clash = 18
+refusalNumber Shut = 19
+refusalNumber OffMap = 20
+refusalNumber Seed = 21
+refusalNumber TooMany = 22
+refusalNumber UnlikeHeads = 23
+refusalNumber TooLong = 24
+refusalNumber Closeness = 25
+refusalNumber Ticks = 26
+refusalNumber Doubled = 27
 
 abbrev pub outcomeNumber : Outcome → ℕ
 outcomeNumber Done = 0

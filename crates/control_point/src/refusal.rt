@@ -1,4 +1,4 @@
-// Why a call is refused: document 01's words, in the order of its numbers.
+// Why a call is refused: the words of documents 01 and 02, in the order of their numbers.
 ghost use mathlib.Core.Path.{_≡_};
 ghost use Rattle.control_point.specs.Refusal.{refusalNumber, outcomeNumber};
 
@@ -19,6 +19,17 @@ pub enum Refusal {
     Heading,
     NoWeight,
     Short,
+    Pull,
+    Clash,
+    Shut,
+    OffMap,
+    Seed,
+    TooMany,
+    UnlikeHeads,
+    TooLong,
+    Closeness,
+    Ticks,
+    Doubled,
 }
 
 impl Refusal {
@@ -43,6 +54,17 @@ impl Refusal {
             Refusal::Heading => 14,
             Refusal::NoWeight => 15,
             Refusal::Short => 16,
+            Refusal::Pull => 17,
+            Refusal::Clash => 18,
+            Refusal::Shut => 19,
+            Refusal::OffMap => 20,
+            Refusal::Seed => 21,
+            Refusal::TooMany => 22,
+            Refusal::UnlikeHeads => 23,
+            Refusal::TooLong => 24,
+            Refusal::Closeness => 25,
+            Refusal::Ticks => 26,
+            Refusal::Doubled => 27,
         }
     }
 }

@@ -23,7 +23,7 @@ use Rattle.control_point.specs.Small.{millionth}
 use Rattle.control_point.specs.declared.refusal.Outcome.{Outcome}
 use Rattle.control_point.specs.declared.refusal.Outcome.the-variants.{Done, Refused as NotBuilt}
 use Rattle.control_point.specs.declared.refusal.Refusal.{Refusal}
-use Rattle.control_point.specs.declared.refusal.Refusal.the-variants.{Ratio, Foreign, OpenSide, BorderSide, Taken, Interval, Itself, Torn, Ring, Full, NoPoint, Length, Version, Heading, NoWeight, Short}
+use Rattle.control_point.specs.declared.refusal.Refusal.the-variants.{Ratio, Foreign, OpenSide, BorderSide, Taken, Interval, Itself, Torn, Ring, Full, NoPoint, Length, Version, Heading, NoWeight, Short, Pull, Clash, Shut, OffMap, Seed, TooMany, UnlikeHeads, TooLong, Closeness, Ticks, Doubled}
 use Rattle.insertion.specs.Insert.{answerNumber}
 use Rattle.t_mesh.specs.Tmesh.{Axis, X, Y, Z, coordinate}
 use Rattle.t_mesh.specs.declared.t_mesh.Position.{Position}
@@ -135,6 +135,17 @@ numbered Version h = omega arith
 numbered Heading h = omega arith
 numbered NoWeight h = omega arith
 numbered Short h = omega arith
+numbered Pull h = omega arith
+numbered Clash h = omega arith
+numbered Shut h = omega arith
+numbered OffMap h = omega arith
+numbered Seed h = omega arith
+numbered TooMany h = omega arith
+numbered UnlikeHeads h = omega arith
+numbered TooLong h = omega arith
+numbered Closeness h = omega arith
+numbered Ticks h = omega arith
+numbered Doubled h = omega arith
 
 -- ---- the buffer
 -- a float that was written is read back
