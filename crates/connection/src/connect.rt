@@ -4,7 +4,11 @@ ghost use mathlib.Core.Bool.{_&&_};
 ghost use Rattle.control_point.specs.Direction.{flipOf};
 ghost use Rattle.control_point.specs.Point.{isMade, isOpening, sideOf};
 ghost use Rattle.connection.specs.Connect.{mayConnect};
-ghost use Rattle.store.specs.Store.{connectPoints};
+ghost use Rattle.control_point.specs.Told.{outcomeTold};
+ghost use Rattle.control_point.specs.declared.refusal.Outcome.the-variants.{Done};
+ghost use Rattle.control_point.specs.declared.t_mesh_control_point.Side.the-variants.{Link};
+ghost use Rattle.store.specs.Store.{connectPoints, storeSides};
+ghost use Rattle.store.specs.Tables.{connectTable};
 use control_point::refusal::Outcome;
 use control_point::refusal::Refusal;
 use control_point::t_mesh_control_point::Side;
@@ -64,7 +68,9 @@ pub fn connect(
     direction: TmeshDirection,
     interval: f64,
 ) -> Changed
-    ensures { λ r. ⌜ r ≡ connectPoints store first other direction interval ⌝ }
+    ensures is { λ r. ⌜ r ≡ connectPoints store first other direction interval ⌝ }
+    ensures told { λ r. ⌜ outcomeTold (r .outcome) ≡ connectTable store first other direction ⌝ }
+    ensures links { λ r. ⌜ (r .outcome ≡ Done → (storeSides (r .store) first direction ≡ Link other interval) × (storeSides (r .store) other (flipOf direction) ≡ Link first interval)) ⌝ }
 {
     let made = store.made;
     if !both_made(made, first, other) {

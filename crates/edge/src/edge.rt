@@ -1,6 +1,10 @@
 // A border's weight is set, and a border opened.
 ghost use mathlib.Core.Path.{_≡_};
-ghost use Rattle.store.specs.Store.{setEdgeConWeight, removeEdgeCondition};
+ghost use Rattle.control_point.specs.Told.{outcomeTold};
+ghost use Rattle.control_point.specs.declared.refusal.Outcome.the-variants.{Done};
+ghost use Rattle.control_point.specs.declared.t_mesh_control_point.Side.the-variants.{Border};
+ghost use Rattle.store.specs.Store.{setEdgeConWeight, removeEdgeCondition, storeSides};
+ghost use Rattle.store.specs.Tables.{setEdgeConWeightTable};
 use control_point::refusal::Outcome;
 use control_point::refusal::Refusal;
 use control_point::t_mesh_control_point::Side;
@@ -17,7 +21,9 @@ use store::store::settle;
 
 // Sets a border's weight.
 pub fn set_edge_con_weight(store: Store, n: u8, direction: TmeshDirection, weight: f64) -> Changed
-    ensures { λ r. ⌜ r ≡ setEdgeConWeight store n direction weight ⌝ }
+    ensures is { λ r. ⌜ r ≡ setEdgeConWeight store n direction weight ⌝ }
+    ensures told { λ r. ⌜ outcomeTold (r .outcome) ≡ setEdgeConWeightTable store n direction ⌝ }
+    ensures border { λ r. ⌜ (r .outcome ≡ Done → storeSides (r .store) n direction ≡ Border weight) ⌝ }
 {
     let made = store.made;
     if !is_made(made, n) {

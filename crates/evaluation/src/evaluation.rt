@@ -1,7 +1,7 @@
 // The surface at a place.
 ghost use mathlib.Core.Path.{_≡_};
 ghost use Rattle.control_point.specs.Small.{millionth};
-ghost use Rattle.surface.specs.Evaluation.{shareBy, answerBy, subsOf, weighty, setPoint};
+ghost use Rattle.surface.specs.Evaluation.{evaluationTold, shareBy, answerBy, subsOf, subsTable, weighty, setPoint, setPointTable};
 use basis::basis_function;
 use control_point::refusal::Outcome;
 use control_point::refusal::Refusal;
@@ -40,7 +40,8 @@ fn answer_by(outcome: Outcome, value: Evaluation) -> EvaluationAnswer
 
 // At (s, t); knots are built only if none are kept. The loop stands where the map is, so that no map is copied for it.
 pub fn subs(mut map: Tmesh, s: f64, t: f64) -> Evaluated
-    ensures { λ r. ⌜ r ≡ subsOf millionth map s t ⌝ }
+    ensures is { λ r. ⌜ r ≡ subsOf millionth map s t ⌝ }
+    ensures told { λ r. ⌜ evaluationTold (r .answer) ≡ subsTable millionth map s t ⌝ }
 {
     let mut outcome = Outcome::Done;
     if !map.kept {
@@ -84,7 +85,8 @@ fn is_weighty(value: Evaluation) -> bool
 
 // The value as a set-point, refused unless its weight is positive and finite.
 pub fn set_point(value: Evaluation) -> EvaluationAnswer
-    ensures { λ r. ⌜ r ≡ setPoint value ⌝ }
+    ensures is { λ r. ⌜ r ≡ setPoint value ⌝ }
+    ensures told { λ r. ⌜ evaluationTold r ≡ setPointTable value ⌝ }
 {
     if is_weighty(value) {
         EvaluationAnswer::Is(value)

@@ -4,12 +4,13 @@
 -- opening, it stores no interval and the insertion is 3; a border's weight there counts as its interval, as in the source.
 use Prim.Native.Nat.{ℕ, _+_}
 use mathlib.Core.Bool.{Bool, true, false, cond, _&&_, _||_}
+use mathlib.Core.List.{[], _∷_}
 use lib.Dec.{ltb}
 use lib.Ieee.{Float, binary64, le, sub, mul}
 use Rattle.float64.specs.Literals.{zeroLiteral, oneLiteral}
 use Rattle.control_point.specs.Direction.{clockwiseOf, antiClockwiseOf, flipOf}
 use Rattle.control_point.specs.Point.{withSide, loosePoint, sideRefusal}
-use Rattle.control_point.specs.Refusal.{refusalNumber}
+use Rattle.control_point.specs.Told.{Told, natural, refusalTold}
 use Rattle.control_point.specs.Sides.{Sides, sideAt, sidesWith}
 use Rattle.control_point.specs.Small.{small}
 use Rattle.control_point.specs.declared.refusal.Refusal.the-variants.{Ratio, Foreign, Interval, Full}
@@ -34,11 +35,17 @@ use Rattle.insertion.specs.declared.insertion.NewSide.{NewSide}
 use Rattle.insertion.specs.declared.insertion.NewSide.the-variants.{Takes, Joins, Opens, Tears, Stays}
 
 -- ---- the answer
--- its number: 0 done, 8 torn, or the refusal's
+-- what it tells: 0 done or 8 torn, with the counts of sides opened and of links inferred; or the refusal's number
+abbrev pub counted : ℕ → ℕ → ℕ → Told
+counted number opened inferred = record { number = number; values = natural opened ∷ (natural inferred ∷ []) }
+
+abbrev pub insertTold : InsertAnswer → Told
+insertTold (Done opened inferred) = counted 0 opened inferred
+insertTold (Torn opened inferred) = counted 8 opened inferred
+insertTold (Refused refusal) = refusalTold refusal
+
 abbrev pub answerNumber : InsertAnswer → ℕ
-answerNumber (Done opened inferred) = 0
-answerNumber (Torn opened inferred) = 8
-answerNumber (Refused refusal) = refusalNumber refusal
+answerNumber answer = insertTold answer .number
 
 -- ---- the checks, in order
 -- from 0 to 1: −0.0 passes, a NaN does not

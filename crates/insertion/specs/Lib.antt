@@ -1,4 +1,6 @@
 pub mod Insert
+pub mod Table
 pub mod Lent
 pub mod InsertLaws
 pub mod LentLaws
+pub mod TableLaws

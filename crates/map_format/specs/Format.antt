@@ -15,6 +15,7 @@ use lib.Dec.{ltb, leb, eqb}
 use lib.ListN.{length}
 use Rattle.big_endian.specs.BigEndian.{byteAt, numberAt, floatAt}
 use Rattle.control_point.specs.Direction.{directionNumbered}
+use Rattle.control_point.specs.Told.{Told, natural, tells, unless, refusalTold}
 use Rattle.control_point.specs.declared.refusal.Refusal.the-variants.{Length, Version, Heading}
 use Rattle.t_mesh.specs.declared.t_mesh.Position.{Position}
 use Rattle.map_format.specs.declared.format.Edit.{Edit}
@@ -102,3 +103,16 @@ checkedFile bytes =
     (cond (headingsRight (editCount bytes) bytes editsAt) (Valid (editCount bytes)) (Refused Heading))
     (Refused Version))
     (Refused Length)
+
+-- what it tells: the count of edits, or the refusal's number
+abbrev pub fileTold : FileCheck → Told
+fileTold (Valid n) = tells (natural n ∷ [])
+fileTold (Refused refusal) = refusalTold refusal
+
+-- the table of a file: 12, 13, 14
+abbrev pub fileTable : List ℕ → Told
+fileTable bytes =
+    unless 12 (lengthRight bytes)
+    (unless 13 (eqb (byteAt bytes versionAt) theVersion)
+    (unless 14 (headingsRight (editCount bytes) bytes editsAt)
+    (tells (natural (editCount bytes) ∷ []))))

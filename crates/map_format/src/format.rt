@@ -1,7 +1,7 @@
 // What the bytes of a map file say, and which files are refused. The places and sizes are those of docs/FORMATS.md.
 ghost use mathlib.Core.Path.{_≡_};
 ghost use Prim.Native.Nat.{_≤_};
-ghost use Rattle.map_format.specs.Format.{editsAt, mostEdits, positionAt, editAt, lengthRight, headingsRight, checkedFile};
+ghost use Rattle.map_format.specs.Format.{editsAt, mostEdits, positionAt, editAt, lengthRight, headingsRight, checkedFile, fileTold, fileTable};
 use big_endian::after;
 use big_endian::byte_at;
 use big_endian::float_at;
@@ -115,7 +115,8 @@ fn headings_right(bytes: &[u8], count: usize) -> bool
 
 // A file's count of edits, or why it is refused.
 pub fn validate(file: &[u8]) -> FileCheck
-    ensures { λ r. ⌜ r ≡ checkedFile (now (file .entry)) ⌝ }
+    ensures is { λ r. ⌜ r ≡ checkedFile (now (file .entry)) ⌝ }
+    ensures told { λ r. ⌜ fileTold r ≡ fileTable (now (file .entry)) ⌝ }
 {
     if !length_right(file) {
         return FileCheck::Refused(Refusal::Length);

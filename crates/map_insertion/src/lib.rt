@@ -1,7 +1,10 @@
 // Insertion of a point into a map.
 ghost use mathlib.Core.Path.{_≡_};
 ghost use Rattle.control_point.specs.Small.{millionth};
+ghost use Rattle.insertion.specs.Insert.{insertTold};
+ghost use Rattle.insertion.specs.Table.{insertionTable};
 ghost use Rattle.t_mesh.specs.Insertion.{keptAfter, addControlPoint};
+ghost use Rattle.t_mesh.specs.Tmesh.{storeOf, isListed};
 use control_point::small::closeness;
 use control_point::t_mesh_direction::TmeshDirection;
 use insertion::insertion::InsertAnswer;
@@ -29,7 +32,8 @@ pub fn add_control_point(
     ratio: f64,
     position: Position,
 ) -> Added
-    ensures { λ r. ⌜ r ≡ addControlPoint millionth map con direction ratio position ⌝ }
+    ensures is { λ r. ⌜ r ≡ addControlPoint millionth map con direction ratio position ⌝ }
+    ensures told { λ r. ⌜ insertTold (r .answer) ≡ insertionTable millionth (storeOf map) (isListed map con) con direction ratio ⌝ }
 {
     let inserted = insert_into(closeness(), map.mesh, con, direction, ratio, position);
     let answer = inserted.answer;

@@ -1,2 +1,4 @@
 pub mod Store
+pub mod Tables
 pub mod StoreLaws
+pub mod TablesLaws

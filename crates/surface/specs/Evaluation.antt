@@ -3,13 +3,13 @@
 -- points in the order of their numbers, every product, quotient and sum rounding once; and beside it the sum of the weights.
 use Prim.Native.Nat.{ℕ, zero, suc, _+_}
 use mathlib.Core.Bool.{Bool, true, false, cond, _&&_}
-use mathlib.Core.List.{List, []}
+use mathlib.Core.List.{List, [], _∷_}
 use lib.Ieee.{Float, nan, inf, binary64, add, mul, div, lt}
 use lib.ListN.{getD}
 use Rattle.float64.specs.Literals.{zeroLiteral}
 use Rattle.basis.specs.Binary64.{binary64Arithmetic, knots}
 use Rattle.basis.specs.Formula.{formula}
-use Rattle.control_point.specs.Refusal.{refusalNumber}
+use Rattle.control_point.specs.Told.{Told, float, tells, unless, refusalTold, refusedOr}
 use Rattle.control_point.specs.declared.refusal.Outcome.{Outcome}
 use Rattle.control_point.specs.declared.refusal.Outcome.the-variants.{Done, Refused as NotBuilt}
 use Rattle.control_point.specs.declared.refusal.Refusal.the-variants.{NoWeight}
@@ -26,10 +26,16 @@ use Rattle.surface.specs.declared.evaluation.Evaluated.{Evaluated}
 use Rattle.surface.specs.declared.evaluation.Share.{Share}
 
 -- ---- the answer
--- its number
+-- what it tells: the position and its weight, or the refusal's number
+abbrev pub valueTold : Evaluation → Told
+valueTold value = tells (float (value .x) ∷ (float (value .y) ∷ (float (value .z) ∷ (float (value .weight) ∷ []))))
+
+abbrev pub evaluationTold : EvaluationAnswer → Told
+evaluationTold (Is value) = valueTold value
+evaluationTold (Refused refusal) = refusalTold refusal
+
 abbrev pub evaluationNumber : EvaluationAnswer → ℕ
-evaluationNumber (Is value) = 0
-evaluationNumber (Refused refusal) = refusalNumber refusal
+evaluationNumber answer = evaluationTold answer .number
 
 -- an evaluation's position on an axis
 abbrev pub onAxis : Axis → Evaluation → Float
@@ -107,9 +113,16 @@ withKnots e map = cond (map .kept) (record { outcome = Done; map = map }) (gener
 unfoldable pub subsOf : Float → Tmesh → Float → Float → Evaluated
 subsOf e map s t = evaluatedBy (withKnots e map .outcome) (withKnots e map .map) s t
 
+-- its table: a ray's refusal where there are no knots, else the value
+abbrev pub subsTable : Float → Tmesh → Float → Float → Told
+subsTable e map s t = refusedOr (withKnots e map .outcome) (valueTold (valueOf (withKnots e map .map) s t))
+
 -- ---- the set-point: 15 unless the weight is positive and finite
 abbrev pub weighty : Evaluation → Bool
 weighty value = lt zeroLiteral (value .weight) && lt (value .weight) (inf false)
 
 unfoldable pub setPoint : Evaluation → EvaluationAnswer
 setPoint value = cond (weighty value) (Is value) (Refused NoWeight)
+
+abbrev pub setPointTable : Evaluation → Told
+setPointTable value = unless 15 (weighty value) (valueTold value)

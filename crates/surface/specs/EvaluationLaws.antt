@@ -8,13 +8,16 @@ use native.Mathlib.Omega.{arith}
 use lib.Ieee.{Float, inf, binary64, ofBits, ofFields, add, div}
 use Rattle.float64.specs.Literals.{zeroLiteral, oneLiteral}
 use Rattle.control_point.specs.declared.refusal.Outcome.{Outcome}
-use Rattle.control_point.specs.declared.refusal.Outcome.the-variants.{Done}
+use Rattle.control_point.specs.Told.{unless, refusedOr}
+use Rattle.control_point.specs.declared.refusal.Outcome.the-variants.{Done, Refused}
+use Rattle.control_point.specs.declared.refusal.Refusal.the-variants.{NoWeight}
 use Rattle.t_mesh.specs.Tmesh.{X, Y, Z, isListed}
 use Rattle.t_mesh.specs.declared.t_mesh.Tmesh.{Tmesh}
-use Rattle.surface.specs.Evaluation.{knotsOf, positionOf, weightOf, shareOf, shareBy, sumFrom, sumOf, valueOf, answerBy, evaluatedBy, withKnots, subsOf}
+use Rattle.surface.specs.Evaluation.{knotsOf, positionOf, weightOf, shareOf, shareBy, sumFrom, sumOf, valueTold, evaluationTold, valueOf, answerBy, evaluatedBy, withKnots, subsOf, subsTable, weighty, setPoint, setPointTable}
 use Rattle.knot_vectors.specs.Knots.{generateKnotVectors}
 use Rattle.surface.specs.declared.evaluation.Evaluation.{Evaluation}
 use Rattle.surface.specs.declared.evaluation.EvaluationAnswer.{EvaluationAnswer}
+use Rattle.surface.specs.declared.evaluation.EvaluationAnswer.the-variants.{Is, Refused as NoValue}
 use Rattle.surface.specs.declared.evaluation.Share.{Share}
 use Rattle.knot_vectors.specs.declared.knots.Generated.{Generated}
 
@@ -110,3 +113,20 @@ module _ (e : Float) (map : Tmesh) where
 pub infinity : div binary64 oneLiteral zeroLiteral ≡ inf false
 unfolding ofBits ofFields div
 infinity = refl
+
+-- ---- both tell what their tables say
+answer-told : (outcome : Outcome) (value : Evaluation) → evaluationTold (answerBy outcome value) ≡ refusedOr outcome (valueTold value)
+answer-told Done value = refl
+answer-told (Refused refusal) value = refl
+
+pub subs-told : (e : Float) (map : Tmesh) (s t : Float) → evaluationTold (subsOf e map s t .answer) ≡ subsTable e map s t
+unfolding subsOf
+subs-told e map s t = answer-told (withKnots e map .outcome) (valueOf (withKnots e map .map) s t)
+
+pub set-point-told : (value : Evaluation) → evaluationTold (setPoint value) ≡ setPointTable value
+unfolding setPoint
+set-point-told value = by-test (weighty value)
+  where
+    by-test : (b : Bool) → evaluationTold (cond b (Is value) (NoValue NoWeight)) ≡ unless 15 b (valueTold value)
+    by-test true = refl
+    by-test false = refl

@@ -9,7 +9,9 @@ use lib.ListN.{length}
 use Rattle.control_point.specs.declared.refusal.Refusal.{Refusal}
 use Rattle.control_point.specs.declared.t_mesh_control_point.TmeshControlPoint.{TmeshControlPoint}
 use Rattle.control_point.specs.declared.t_mesh_direction.TmeshDirection.{TmeshDirection}
-use Rattle.insertion.specs.Insert.{insertPoint}
+use Rattle.insertion.specs.Insert.{insertTold, insertPoint}
+use Rattle.insertion.specs.Table.{insertionTable}
+use Rattle.insertion.specs.TableLaws.{insertion-told}
 use Rattle.insertion.specs.LentLaws.{inserted-made}
 use Rattle.insertion.specs.declared.insertion.InsertAnswer.{InsertAnswer}
 use Rattle.insertion.specs.declared.insertion.InsertAnswer.the-variants.{Refused}
@@ -17,6 +19,7 @@ use Rattle.insertion.specs.declared.insertion.Inserted.{Inserted}
 use Rattle.lent_points.specs.LentLaws.{true-false}
 use Rattle.store.specs.declared.store.Store.{Store}
 use Rattle.t_mesh.specs.Insertion.{isDone, isRefused, withPlaced, answeredMesh, insertIntoMesh, keptAfter, addControlPoint}
+use Rattle.t_mesh.specs.Tmesh.{storeOf, isListed}
 use Rattle.t_mesh.specs.declared.add.Added.{Added}
 use Rattle.t_mesh.specs.declared.add.InsertedMesh.{InsertedMesh}
 use Rattle.t_mesh.specs.declared.t_mesh.Position.{Position}
@@ -54,3 +57,9 @@ pub added-by-mesh : (e : Float) (map : Tmesh) (con : ℕ) (d : TmeshDirection) (
     → addedTo map (insertIntoMesh e (map .mesh) con d ratio position) ≡ addControlPoint e map con d ratio position
 unfolding insertIntoMesh addControlPoint
 added-by-mesh e map con d ratio position = refl
+
+-- ---- it tells what the table of an insertion says
+pub added-told : (e : Float) (map : Tmesh) (con : ℕ) (d : TmeshDirection) (ratio : Float) (position : Position)
+    → insertTold (addControlPoint e map con d ratio position .answer) ≡ insertionTable e (storeOf map) (isListed map con) con d ratio
+unfolding addControlPoint
+added-told e map con d ratio position = insertion-told e (storeOf map) con d ratio (isListed map con)

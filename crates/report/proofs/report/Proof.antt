@@ -17,7 +17,7 @@ put-file-refused-requires c κs =
     let is = c .before .before in
     let check = is .before .before in
     let start = check .before .before .before in
-    checked-fits (start .args .file .now) _ (sym (check .validate .ensures) ∙ is .refusal .given .1)
+    checked-fits (start .args .file .now) _ (sym (check .validate .ensures .0) ∙ is .refusal .given .1)
 
 enum-known-count : tie.Need-enum-known-count
 enum-known-count c = search needs
@@ -27,7 +27,7 @@ put-valid-requires c κs =
     let is = c .before .before in
     let check = is .before .before in
     let start = check .before .before .before in
-    let valid = sym (check .validate .ensures) ∙ is .count .given .1 in (valid-tells (start .args .file .now) _ valid .1, checked-fits (start .args .file .now) _ valid)
+    let valid = sym (check .validate .ensures .0) ∙ is .count .given .1 in (valid-tells (start .args .file .now) _ valid .1, checked-fits (start .args .file .now) _ valid)
 
 same-length : tie.Need-same-length
 same-length c = search needs
@@ -38,7 +38,7 @@ returns c =
     let is = put .before .before .before in
     let check = is .before .before in
     let start = check .before .before .before in
-    reported (start .args .file .now) _ (sym (check .validate .ensures) ∙ is .refusal .given .1) (put .put-file-refused .ensures)
+    reported (start .args .file .now) _ (sym (check .validate .ensures .0) ∙ is .refusal .given .1) (put .put-file-refused .ensures)
 
 same-length-2 : tie.Need-same-length-2
 same-length-2 c = search needs
@@ -49,7 +49,7 @@ returns-2 c =
     let is = put .before .before .before in
     let check = is .before .before in
     let start = check .before .before .before in
-    reported (start .args .file .now) _ (sym (check .validate .ensures) ∙ is .count .given .1) (put .put-valid .ensures)
+    reported (start .args .file .now) _ (sym (check .validate .ensures .0) ∙ is .count .given .1) (put .put-valid .ensures)
 
 pub report-spec : {M : Type 1} → statement M
 report-spec =

@@ -1,14 +1,38 @@
 -- `set_edge_con_weight` meets its contract: the side is a border, or it is refused by what it is.
-use mathlib.Core.Path.{_≡_, _∙_, sym}
+use mathlib.Core.Path.{_≡_, _∙_, sym, ap, subst}
 use mathlib.Core.Bool.{true}
 use borrow.Author.Tests.{not-true, not-false}
 use borrow.Author.Needs.{needs}
 use Rattle.control_point.specs.Point.{isMade}
 use Rattle.control_point.specs.PointLaws.{isMade-room}
-use Rattle.store.specs.Store.{setEdgeConWeight}
+use lib.ListN.{length, length-map}
+use Rattle.control_point.specs.Told.{outcomeTold}
+use Rattle.control_point.specs.declared.refusal.Outcome.the-variants.{Done}
+use Rattle.control_point.specs.declared.t_mesh_control_point.Side.the-variants.{Border}
+use Rattle.store.specs.Store.{storeSides, setEdgeConWeight}
+use Rattle.store.specs.Tables.{setEdgeConWeightTable}
+use Rattle.store.specs.TablesLaws.{weight-told, weight-border}
+use Rattle.store.specs.declared.store.Changed.{Changed}
 use Rattle.edge.proofs.Weighted.{weighted-border}
 use Rattle.edge.proofs.edge.set_edge_con_weight.Statement.{statement}
 use Rattle.edge.proofs.edge.set_edge_con_weight.Tie as tie
+
+-- the promises beside the equation follow from it
+room : (c : tie.Start) → length (c .args .store .points) ≡ 128
+room c = sym (length-map (c .args .store .points) _) ∙ c .good .0 .1 .1 .0 .1 .0 .1
+
+promised : (c : tie.Start) (r : Changed) → let a = c .args in r ≡ setEdgeConWeight (a .store) (a .n) (a .direction) (a .weight)
+    → (r ≡ setEdgeConWeight (a .store) (a .n) (a .direction) (a .weight))
+    × ((outcomeTold (r .outcome) ≡ setEdgeConWeightTable (a .store) (a .n) (a .direction))
+    × (r .outcome ≡ Done → storeSides (r .store) (a .n) (a .direction) ≡ Border (a .weight)))
+promised c r is =
+    let a = c .args in (
+      is,
+      (
+        ap (λ (x : Changed). outcomeTold (x .outcome)) is ∙ weight-told (a .store) (a .n) (a .direction) (a .weight),
+        subst (λ (x : Changed). x .outcome ≡ Done → storeSides (x .store) (a .n) (a .direction) ≡ Border (a .weight)) (sym is) (weight-border (a .store) (a .n) (a .direction) (a .weight) (room c)),
+      ),
+    )
 
 made : (c : tie.Else1) → isMade (c .before .before .args .store .made) (c .before .before .args .n) ≡ true
 made c = sym (c .before .is-made .ensures) ∙ not-false _ (c .if1 .left)
@@ -18,7 +42,7 @@ is-made-requires c κs = search needs
 
 returns : tie.Need-returns
 unfolding setEdgeConWeight
-returns c = simp (sym (c .before .is-made .ensures) ∙ not-true _ (c .if1 .taken))
+returns c = promised (c .before .before) _ (simp (sym (c .before .is-made .ensures) ∙ not-true _ (c .if1 .taken)))
 
 point-at-requires : tie.Need-point-at-requires
 point-at-requires c κs = isMade-room _ _ (made c)
@@ -43,10 +67,12 @@ unfolding setEdgeConWeight
 returns-2 c =
     let s = c .before .before .before .before in
     let w = s .before in
-    let a = w .before .before .before .args in
-    c .settle .ensures
+    let b = w .before .before .before in
+    let a = b .args in
+    promised b _
+    (c .settle .ensures
     ∙ rw (c .before .side-refusal .ensures, c .before .before .is-border .ensures, c .before .before .before .with-side .ensures)
-    (simp (made (w .before), weighted-border (a .store) (a .n) (a .direction) (a .weight), s .side-of .ensures, w .point-at .ensures))
+    (simp (made (w .before), weighted-border (a .store) (a .n) (a .direction) (a .weight), s .side-of .ensures, w .point-at .ensures)))
 
 pub set-edge-con-weight-spec : {M : Type 1} → statement M
 set-edge-con-weight-spec =

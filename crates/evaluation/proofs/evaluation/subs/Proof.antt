@@ -6,7 +6,10 @@ use mathlib.Core.Path.{_≡_}
 use mathlib.Core.Logic.{⊎-elim}
 use native.Mathlib.Omega.{arith}
 use Rattle.control_point.specs.Small.{millionth}
-use Rattle.surface.specs.EvaluationLaws.{Sums, sums-start, sums-end, sums-added, sums-passed, ready-kept, ready-built, evaluated-ready}
+use Rattle.surface.specs.EvaluationLaws.{Sums, sums-start, sums-end, sums-added, sums-passed, ready-kept, ready-built, evaluated-ready, subs-told}
+use Rattle.control_point.specs.ToldLaws.{beside}
+use Rattle.surface.specs.Evaluation.{evaluationTold}
+use Rattle.surface.specs.declared.evaluation.Evaluated.{Evaluated}
 use Rattle.evaluation.proofs.evaluation.subs.Statement.{statement}
 use Rattle.evaluation.proofs.evaluation.subs.Tie as tie
 
@@ -80,13 +83,14 @@ returns c =
     let o = j .if1 .outcome in
     let k = l .loop in
     let h : k .n ≡ 128 = omega arith in
-    evaluated-ready millionth (a .t1) (a .s) (a .t) o m _ (c .answer-by .result)
+    beside (λ (x : Evaluated). evaluationTold (x .answer)) _ _ (subs-told millionth (a .t1) (a .s) (a .t)) _
+    (evaluated-ready millionth (a .t1) (a .s) (a .t) o m _ (c .answer-by .result)
     (⊎-elim
     (λ w. ready-built millionth (a .t1) o m (w .1 .result) (w .1 .ensures) (not-true _ (w .0 .taken)) (w .4) (w .3))
     (λ w. ready-kept millionth (a .t1) o m (not-false _ (w .0 .left)) (w .2) (w .1))
     (j .if1 .came))
     (sums-end m (a .s) (a .t) (k .n) (k .x) (k .y) (k .z) (k .weight) h (k .inv .1))
-    (c .answer-by .ensures)
+    (c .answer-by .ensures))
 
 pub subs-spec : {M : Type 1} → statement M
 subs-spec =

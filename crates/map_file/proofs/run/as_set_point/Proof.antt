@@ -13,7 +13,7 @@ enum-known-answer-2 : tie.Need-enum-known-answer-2
 enum-known-answer-2 c = search needs
 
 returns : tie.Need-returns
-returns c = rw (c .before .before .answer .given .1) (c .set-point .ensures)
+returns c = rw (c .before .before .answer .given .1) (c .set-point .ensures .0)
 
 returns-2 : tie.Need-returns-2
 returns-2 c = rw (c .before .answer2 .given .1)

@@ -34,14 +34,14 @@ returns c =
     let a = check .before .before .args in
     c .set-point-at .ensures
     ∙ ap (λ (map : Tmesh). setPointAt millionth map (a .s) (a .t)) (run .run-edits .ensures .0)
-    ∙ set-point-valid millionth (a .file .now) (a .s) (a .t) _ (sym (check .validate .ensures) ∙ known .check .given .1)
+    ∙ set-point-valid millionth (a .file .now) (a .s) (a .t) _ (sym (check .validate .ensures .0) ∙ known .check .given .1)
 
 returns-2 : tie.Need-returns-2
 returns-2 c =
     let known = c .before in
     let check = known .before .before in
     let a = check .before .before .args in
-    set-point-refused millionth (a .file .now) (a .s) (a .t) _ (sym (check .validate .ensures) ∙ known .check2 .given .1)
+    set-point-refused millionth (a .file .now) (a .s) (a .t) _ (sym (check .validate .ensures .0) ∙ known .check2 .given .1)
 
 pub file-set-point-spec : {M : Type 1} → statement M
 file-set-point-spec =

@@ -13,7 +13,7 @@ as-set-point-requires : tie.Need-as-set-point-requires
 as-set-point-requires c κs = search needs
 
 returns : tie.Need-returns
-returns c = c .as-set-point .ensures ∙ ap (λ (evaluated : Evaluated). asSetPoint (evaluated .answer)) (c .before .subs .ensures)
+returns c = c .as-set-point .ensures ∙ ap (λ (evaluated : Evaluated). asSetPoint (evaluated .answer)) (c .before .subs .ensures .0)
 
 pub set-point-at-spec : {M : Type 1} → statement M
 set-point-at-spec = tie.close (tie.spec subs-requires as-set-point-requires returns)

@@ -1,22 +1,30 @@
 -- `validate` meets its contract: the tests are made in the order of the definition, and a right length keeps the count small.
 use mathlib.Core.Path.{_≡_, sym, _∙_}
+use Prim.Native.Nat.{ℕ}
 use mathlib.Core.Bool.{true}
+use mathlib.Core.List.{List}
 use native.Mathlib.Omega.{arith}
 use lib.Dec.{eqb}
 use borrow.Author.Needs.{needs}
 use borrow.Author.Tests.{eq-eqb, ne-eqb, not-true, not-false}
 use Rattle.big_endian.specs.BigEndian.{byteAt}
-use Rattle.map_format.specs.Format.{versionAt, theVersion, lengthRight, checkedFile}
-use Rattle.map_format.specs.FormatLaws.{length-tells}
+use Rattle.control_point.specs.ToldLaws.{beside}
+use Rattle.map_format.specs.Format.{versionAt, theVersion, lengthRight, checkedFile, fileTold, fileTable}
+use Rattle.map_format.specs.FormatLaws.{length-tells, file-told}
+use Rattle.map_format.specs.declared.format.FileCheck.{FileCheck}
 use Rattle.map_format.proofs.format.validate.Statement.{statement}
 use Rattle.map_format.proofs.format.validate.Tie as tie
+
+-- what it tells follows from what it is
+told : (bytes : List ℕ) (r : FileCheck) → r ≡ checkedFile bytes → (r ≡ checkedFile bytes) × (fileTold r ≡ fileTable bytes)
+told bytes = beside fileTold (checkedFile bytes) (fileTable bytes) (file-told bytes)
 
 length-right-requires : tie.Need-length-right-requires
 length-right-requires c κs = search needs
 
 returns : tie.Need-returns
 unfolding checkedFile
-returns c = rw (sym (c .before .length-right .ensures) ∙ not-true _ (c .if1 .taken))
+returns c = told _ _ (rw (sym (c .before .length-right .ensures) ∙ not-true _ (c .if1 .taken)))
 
 -- past the test of the length
 long : (c : tie.Else1) → lengthRight (c .before .before .before .args .file .now) ≡ true
@@ -27,7 +35,7 @@ byte-at-requires c κs = search needs
 
 returns-2 : tie.Need-returns-2
 unfolding checkedFile
-returns-2 c = rw (long (c .before .before), ne-eqb _ theVersion (λ same. c .if2 .taken (c .before .byte-at .ensures ∙ same)))
+returns-2 c = told _ _ (rw (long (c .before .before), ne-eqb _ theVersion (λ same. c .if2 .taken (c .before .byte-at .ensures ∙ same))))
 
 -- past the test of the version
 versioned : (c : tie.Else2) → eqb (byteAt (c .before .before .before .before .before .args .file .now) versionAt) theVersion ≡ true
@@ -41,11 +49,11 @@ headings-right-requires c κs = length-tells _ (long (c .before .before)) .2
 
 returns-3 : tie.Need-returns-3
 unfolding checkedFile
-returns-3 c = rw (long (c .before .before .before .before), versioned (c .before .before), sym (c .before .headings-right .ensures) ∙ c .if3 .taken)
+returns-3 c = told _ _ (rw (long (c .before .before .before .before), versioned (c .before .before), sym (c .before .headings-right .ensures) ∙ c .if3 .taken))
 
 returns-4 : tie.Need-returns-4
 unfolding checkedFile
-returns-4 c = rw (long (c .before .before .before .before), versioned (c .before .before), sym (c .before .headings-right .ensures) ∙ c .if3 .left)
+returns-4 c = told _ _ (rw (long (c .before .before .before .before), versioned (c .before .before), sym (c .before .headings-right .ensures) ∙ c .if3 .left))
 
 pub validate-spec : {M : Type 1} → statement M
 validate-spec =

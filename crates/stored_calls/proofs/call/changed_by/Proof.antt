@@ -32,7 +32,7 @@ connect-requires c κs = search needs
 
 returns-2 : tie.Need-returns-2
 unfolding change
-returns-2 c = let k = c .before .before .before .before in rw (c .connect .ensures, c .before .float-at2 .ensures, c .before .before .byte-at2 .ensures, c .before .before .before .direction-at .ensures, k .before .byte-at .ensures) (simp (ne-eqb _ _ (k .before .before .if1 .left), eq-eqb _ _ (k .if2 .taken)))
+returns-2 c = let k = c .before .before .before .before in rw (c .connect .ensures .0, c .before .float-at2 .ensures, c .before .before .byte-at2 .ensures, c .before .before .before .direction-at .ensures, k .before .byte-at .ensures) (simp (ne-eqb _ _ (k .before .before .if1 .left), eq-eqb _ _ (k .if2 .taken)))
 
 float-at-requires-3 : tie.Need-float-at-requires-3
 float-at-requires-3 c κs = search needs
@@ -72,7 +72,7 @@ set-edge-con-weight-requires c κs = search needs
 
 returns-6 : tie.Need-returns-6
 unfolding change
-returns-6 c = let k = c .before .before .before .before .before in rw (c .set-edge-con-weight .ensures, c .before .float-at5 .ensures, c .before .before .before .before .direction-at2 .ensures, k .before .before .byte-at .ensures) (simp (ne-eqb _ _ (k .before .before .before .if1 .left), ne-eqb _ _ (k .before .if2 .left), ne-eqb _ _ (k .if3 .left), ne-eqb _ _ (c .before .before .before .if4 .left), ne-eqb _ _ (c .before .before .if5 .left)))
+returns-6 c = let k = c .before .before .before .before .before in rw (c .set-edge-con-weight .ensures .0, c .before .float-at5 .ensures, c .before .before .before .before .direction-at2 .ensures, k .before .before .byte-at .ensures) (simp (ne-eqb _ _ (k .before .before .before .if1 .left), ne-eqb _ _ (k .before .if2 .left), ne-eqb _ _ (k .if3 .left), ne-eqb _ _ (c .before .before .before .if4 .left), ne-eqb _ _ (c .before .before .if5 .left)))
 
 pub changed-by-spec : {M : Type 1} → statement M
 changed-by-spec =
