@@ -5,7 +5,7 @@ use mathlib.Core.List.{List, [], _∷_}
 use lib.Ieee.{Float}
 use Rattle.t_mesh.specs.declared.t_mesh.Tmesh.{Tmesh}
 use Rattle.calls.specs.Calls.{Call, insertion, mapAfter}
-use Rattle.soundness.specs.Theorems.{mapAfterAll}
+use Rattle.soundness.specs.MapCalls.{mapAfterAll, entries}
 use Rattle.map_file.specs.Run.{edited, afterEdits}
 use Rattle.map_format.specs.declared.format.Edit.{Edit}
 
@@ -17,7 +17,7 @@ unfoldable pub callsOf : List Edit → List Call
 callsOf [] = []
 callsOf (edit ∷ rest) = callOf edit ∷ callsOf rest
 
-pub edits-are-calls : (e : Float) (map : Tmesh) (edits : List Edit) → afterEdits e map edits ≡ mapAfterAll e map (callsOf edits)
-unfolding afterEdits mapAfterAll callsOf
+pub edits-are-calls : (e : Float) (map : Tmesh) (edits : List Edit) → afterEdits e map edits ≡ mapAfterAll e map (entries (callsOf edits))
+unfolding afterEdits mapAfterAll entries callsOf
 edits-are-calls e map [] = refl
 edits-are-calls e map (edit ∷ rest) = edits-are-calls e (edited e map edit .map) rest

@@ -18,7 +18,8 @@ use Rattle.surface.specs.declared.evaluation.EvaluationAnswer.{EvaluationAnswer
 use Rattle.surface.specs.declared.evaluation.EvaluationAnswer.the-variants.{Is, Refused as NoValue}
 use Rattle.calls.specs.Calls.{Call}
 use Rattle.t_mesh.specs.declared.t_mesh.Tmesh.{Tmesh}
-use Rattle.soundness.specs.Theorems.{OneOf, mapAfterAll}
+use Rattle.soundness.specs.MapCalls.{entries}
+use Rattle.soundness.specs.Theorems.{OneOf}
 use Rattle.soundness.specs.EveryMapProof.{evaluation-refusals}
 use Rattle.map_format.specs.Format.{versionAt, theVersion, editsAt, editCount, editsFrom, lengthRight, headingsRight, checkedFile}
 use Rattle.map_file.specs.Run.{cornerOf, freshMap, afterEdits, fileMap, asSetPoint, setPointAt, checkedSetPoint, fileSetPoint}
@@ -69,7 +70,7 @@ file-named : (file : List ℕ) (s t : Float) (check : FileCheck) → NamedCheck 
 file-named file s t (Valid count) named =
     answer-named (subsOf millionth (fileMap millionth file count) s t .answer)
     (λ refusal is.
-    evaluation-refusals millionth (floatAt file 5) (cornerOf file 0) (cornerOf file 1) (cornerOf file 2) (cornerOf file 3) (callsOf (editsFrom count file editsAt)) millionth s t refusal
+    evaluation-refusals millionth (floatAt file 5) (cornerOf file 0) (cornerOf file 1) (cornerOf file 2) (cornerOf file 3) (entries (callsOf (editsFrom count file editsAt))) millionth s t refusal
     (subst (λ (map : Tmesh). subsOf millionth map s t .answer ≡ NoValue refusal) (edits-are-calls millionth (freshMap file) (editsFrom count file editsAt)) is))
 file-named file s t (Refused refusal) named = named
 

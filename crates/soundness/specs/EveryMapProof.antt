@@ -14,18 +14,18 @@ use Rattle.mirror.specs.BoolLaws.{or-case}
 use Rattle.store.specs.Store.{storeSides}
 use Rattle.t_mesh.specs.Tmesh.{storeOf, newTmesh}
 use Rattle.t_mesh.specs.declared.t_mesh.Tmesh.{Tmesh}
-use Rattle.calls.specs.Calls.{Call, mapAfter}
+use Rattle.soundness.specs.MapCalls.{MapCall, afterCall, mapAfterAll}
 use Rattle.soundness.specs.FreshLaws.{sound-fresh}
 use Rattle.soundness.specs.InsertionLaws.{KnownAnswer}
 use Rattle.soundness.specs.KnownLaws.{MetOutcome, KnownWalk, known-walk}
 use Rattle.soundness.specs.KnownRayLaws.{KnownRay, known-ray, known-knots}
 use Rattle.soundness.specs.MapLaws.{SoundMesh, KnownEvaluation, insertion-known, insertion-seeks, insertion-places, generation-known, evaluation-known, sound-call, listing-call}
-use Rattle.soundness.specs.Theorems.{mapAfterAll, EveryMap, OneOf, EveryMapMirrored, ListedIsMade, ListingGrows, PlacingConnects, MeetsPoints, NoPointNever, EvaluationRefusals}
+use Rattle.soundness.specs.Theorems.{EveryMap, OneOf, EveryMapMirrored, ListedIsMade, ListingGrows, PlacingConnects, MeetsPoints, NoPointNever, EvaluationRefusals}
 
-sound-list : (e : Float) (calls : List Call) (map : Tmesh) → SoundMesh (map .mesh) → SoundMesh (mapAfterAll e map calls .mesh)
+sound-list : (e : Float) (calls : List MapCall) (map : Tmesh) → SoundMesh (map .mesh) → SoundMesh (mapAfterAll e map calls .mesh)
 unfolding mapAfterAll
 sound-list e [] map sound = sound
-sound-list e (call ∷ calls) map sound = sound-list e calls (mapAfter e map call) (sound-call map sound e call)
+sound-list e (call ∷ calls) map sound = sound-list e calls (afterCall e map call) (sound-call map sound e call)
 
 -- what a sound mesh says of its map holds of every map
 of-sound : (Holds : Tmesh → Type 0) → ((map : Tmesh) → SoundMesh (map .mesh) → Holds map) → EveryMap Holds

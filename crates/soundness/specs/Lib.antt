@@ -1,3 +1,4 @@
+pub mod MapCalls
 pub mod Theorems
 pub mod KnownLaws
 pub mod KnownRayLaws
@@ -5,6 +6,9 @@ pub mod LinkLaws
 pub mod PlacingLaws
 pub mod AcrossLaws
 pub mod InsertionLaws
+pub mod DirectLaws
 pub mod MapLaws
 pub mod FreshLaws
 pub mod EveryMapProof
+pub mod OnlyDoneDropsProof
+pub mod RejoinedIsSixProof

@@ -32,11 +32,14 @@ use Rattle.surface.specs.declared.evaluation.Evaluation.{Evaluation}
 use Rattle.surface.specs.declared.evaluation.EvaluationAnswer.{EvaluationAnswer}
 use Rattle.surface.specs.declared.evaluation.EvaluationAnswer.the-variants.{Is, Refused as NoValue}
 use Rattle.knot_vectors.specs.declared.knots.Generated.{Generated}
-use Rattle.calls.specs.Calls.{Call, insertion, evaluation, answerTo, mapAfter}
+use Rattle.calls.specs.Calls.{insertion, evaluation}
+use Rattle.mirror.specs.EveryListMirroredProof.{sound-call as sound-direct}
+use Rattle.soundness.specs.DirectLaws.{call-grows}
+use Rattle.soundness.specs.MapCalls.{MapCall, entry, build, direct, afterCall, addsPoint}
 use Rattle.soundness.specs.InsertionLaws.{KnownAnswer, Grown, Inserts, inserts}
 use Rattle.soundness.specs.KnownLaws.{Met, MetOutcome}
 use Rattle.soundness.specs.KnownRayLaws.{known-knots}
-use Rattle.soundness.specs.Theorems.{Placing, Seeking, listsPoint}
+use Rattle.soundness.specs.Theorems.{Placing, Seeking}
 
 -- a sound store whose listed numbers are made
 pub record SoundMesh (mesh : Mesh) : Type 0 where
@@ -199,11 +202,20 @@ module _ (map : Tmesh) (mesh-sound : SoundMesh (map .mesh)) where
       evaluation-mesh = keeps .1
 
   -- ---- any call
-  pub sound-call : (e : Float) (call : Call) → SoundMesh (mapAfter e map call .mesh)
-  sound-call e (insertion con d ratio position) = insertion-sound e con d ratio position
-  sound-call e (evaluation s t) = subst SoundMesh (sym (evaluation-mesh e s t)) mesh-sound
+  pub sound-call : (e : Float) (call : MapCall) → SoundMesh (afterCall e map call .mesh)
+  sound-call e (entry (insertion con d ratio position)) = insertion-sound e con d ratio position
+  sound-call e (entry (evaluation s t)) = subst SoundMesh (sym (evaluation-mesh e s t)) mesh-sound
+  sound-call e build = subst SoundMesh (sym (generates e .1)) mesh-sound
+  sound-call e (direct call) =
+      record {
+        sound = sound-direct (storeOf map) call (mesh-sound .sound);
+        room = mesh-sound .room;
+        listed-made = λ n h. let l = mesh-sound .listed-made n h in let more = call-grows (storeOf map) call in omega arith;
+      }
 
-  pub listing-call : (e : Float) (call : Call) (n : ℕ)
-      → isListed (mapAfter e map call) n ≡ ((listsPoint (answerTo e map call) && eqb n (storeOf map .made)) || isListed map n)
-  listing-call e (insertion con d ratio position) n = insertion-lists e con d ratio position n
-  listing-call e (evaluation s t) n = ap (λ (mesh : Mesh). getD (mesh .listed) n false) (evaluation-mesh e s t)
+  pub listing-call : (e : Float) (call : MapCall) (n : ℕ)
+      → isListed (afterCall e map call) n ≡ ((addsPoint e map call && eqb n (storeOf map .made)) || isListed map n)
+  listing-call e (entry (insertion con d ratio position)) n = insertion-lists e con d ratio position n
+  listing-call e (entry (evaluation s t)) n = ap (λ (mesh : Mesh). getD (mesh .listed) n false) (evaluation-mesh e s t)
+  listing-call e build n = ap (λ (mesh : Mesh). getD (mesh .listed) n false) (generates e .1)
+  listing-call e (direct call) n = refl

@@ -1,5 +1,6 @@
--- Theorems on lists of calls on a map: statements only, with what they speak of. The lists are every list of insertions and evaluations
--- on a fresh map of any border weight and corners, with any closeness and any arguments, calls refused or torn among them. Of the maps that
+-- Theorems on lists of calls on a map: statements only, with what they speak of. The lists are every list of insertions, evaluations,
+-- buildings of knots and direct calls on a fresh map of any border weight and corners, with any closeness and any arguments, calls refused or
+-- torn among them. Of the maps that
 -- they leave is said that links are mirrored, what is listed, that no connect of an insertion fails, and that 11 is met by no call; the call
 -- that is spoken of may have a closeness other than the list's.
 use Prim.Native.Nat.{ℕ, _<_}
@@ -8,7 +9,13 @@ use mathlib.Core.Bool.{Bool, true, false, _&&_, _||_}
 use mathlib.Core.List.{List, [], _∷_}
 use mathlib.Core.Logic.{_⊎_}
 use lib.Dec.{eqb}
-use lib.Ieee.{Float}
+use lib.Ieee.{Float, inf}
+use Rattle.float64.specs.Literals.{oneLiteral}
+use Rattle.control_point.specs.Small.{millionth}
+use Rattle.control_point.specs.Told.{refusedBy}
+use Rattle.control_point.specs.declared.t_mesh_direction.TmeshDirection.the-variants.{Right}
+use Rattle.mirror.specs.Calls.{connect, remove-connection}
+use Rattle.calls.specs.ExampleValues.{half}
 use Rattle.control_point.specs.Direction.{clockwiseOf, antiClockwiseOf}
 use Rattle.control_point.specs.declared.refusal.Outcome.the-variants.{Done, Refused}
 use Rattle.control_point.specs.Refusal.{refusalNumber}
@@ -20,7 +27,7 @@ use Rattle.navigation.specs.declared.walk.Walk.the-variants.{Refused as NoWalk}
 use Rattle.store.specs.Store.{storeSides, withSideAt, connectPoints, navigateUntilCon}
 use Rattle.store.specs.declared.store.Store.{Store}
 use Rattle.mirror.specs.Mirror.{Sound}
-use Rattle.insertion.specs.Insert.{nearJoined, farJoined, placed, sought, firstSide, withFirst, secondSide, sided, insertPoint}
+use Rattle.insertion.specs.Insert.{insertTold, nearJoined, farJoined, placed, sought, firstSide, withFirst, secondSide, sided, insertPoint}
 use Rattle.insertion.specs.declared.insertion.NewSide.{NewSide}
 use Rattle.insertion.specs.declared.insertion.NewSide.the-variants.{Takes, Joins, Opens, Tears, Stays}
 use Rattle.insertion.specs.declared.insertion.Inserted.{Inserted}
@@ -28,25 +35,20 @@ use Rattle.insertion.specs.declared.insertion.InsertAnswer.the-variants.{Refuse
 use Rattle.ray.specs.Knots.{pointKnotVectors}
 use Rattle.search.specs.declared.search.Found.the-variants.{Failed}
 use Rattle.ray.specs.Ray.{refused, rayOf}
-use Rattle.t_mesh.specs.Insertion.{isDone, isRefused, addControlPoint}
+use Rattle.t_mesh.specs.Insertion.{isRefused, addControlPoint}
 use Rattle.t_mesh.specs.Tmesh.{storeOf, isListed, newTmesh}
 use Rattle.t_mesh.specs.declared.t_mesh.Position.{Position}
 use Rattle.t_mesh.specs.declared.t_mesh.Tmesh.{Tmesh}
 use Rattle.surface.specs.Evaluation.{subsOf}
 use Rattle.knot_vectors.specs.Knots.{generateKnotVectors}
 use Rattle.surface.specs.declared.evaluation.EvaluationAnswer.the-variants.{Refused as NoValue}
-use Rattle.calls.specs.Calls.{Call, Answer, inserted, evaluated, answerTo, mapAfter}
+use Rattle.soundness.specs.MapCalls.{MapCall, direct, afterCall, mapAfterAll, addsPoint}
 
 -- ---- the maps
--- the map after a list of calls, each on the map that the one before it left
-unfoldable pub mapAfterAll : Float → Tmesh → List Call → Tmesh
-mapAfterAll e map [] = map
-mapAfterAll e map (call ∷ rest) = mapAfterAll e (mapAfter e map call) rest
-
 -- what holds of the map after every list of calls on every fresh one
 abbrev pub EveryMap : (Tmesh → Type 0) → Type 0
 EveryMap Holds =
-    (e weight : Float) (bottomLeft bottomRight topRight topLeft : Position) (calls : List Call)
+    (e weight : Float) (bottomLeft bottomRight topRight topLeft : Position) (calls : List MapCall)
     → Holds (mapAfterAll e (newTmesh weight bottomLeft bottomRight topRight topLeft) calls)
 
 -- Each link of a made point leads to another made point, whose facing side links back with the same interval, bit for bit.
@@ -58,19 +60,19 @@ EveryMapMirrored = EveryMap (λ map. Sound (storeOf map))
 abbrev pub ListedIsMade : Type 0
 ListedIsMade = EveryMap (λ map. (n : ℕ) → isListed map n ≡ true → n < storeOf map .made)
 
--- whether an answer is that of an insertion done
-abbrev pub listsPoint : Answer → Bool
-listsPoint (inserted answer) = isDone answer
-listsPoint (evaluated answer) = false
-
 -- An insertion done adds to the listing the number that was the count of points made before, and no other; every other call leaves the
 -- listing as it was. As what was listed is made, so of a lower number, the listing is in number order.
 abbrev pub ListingGrows : Type 0
 ListingGrows =
     EveryMap
     (λ map.
-    (e : Float) (call : Call) (n : ℕ)
-    → isListed (mapAfter e map call) n ≡ ((listsPoint (answerTo e map call) && eqb n (storeOf map .made)) || isListed map n))
+    (e : Float) (call : MapCall) (n : ℕ)
+    → isListed (afterCall e map call) n ≡ ((addsPoint e map call && eqb n (storeOf map .made)) || isListed map n))
+
+-- ---- the kept knots
+-- On every map: only an insertion done drops the kept knots. Every other call, refused or not, leaves them kept.
+abbrev pub OnlyDoneDrops : Type 0
+OnlyDoneDrops = (e : Float) (map : Tmesh) (call : MapCall) → map .kept ≡ true → addsPoint e map call ≡ false → afterCall e map call .kept ≡ true
 
 -- ---- the connects of an insertion
 -- a side of p that joins another point does so by a connect that is done
@@ -151,3 +153,14 @@ abbrev pub EvaluationRefusals : Type 0
 EvaluationRefusals =
     EveryMap
     (λ map. (e s t : Float) (refusal : Refusal) → subsOf e map s t .answer ≡ NoValue refusal → OneOf (refusalNumber refusal) (3 ∷ (4 ∷ (9 ∷ []))))
+
+-- ---- document 01's reading: 0 Right cut, rejoined at infinity, ratio 0.5: 6
+abbrev pub rejoined : List MapCall
+rejoined = direct (remove-connection 0 Right) ∷ (direct (connect 0 1 Right (inf false)) ∷ [])
+
+-- On the plate of border 1.0 and any corners, after these two direct calls, an insertion from 0 Right at 0.5 of any position is refused 6.
+abbrev pub RejoinedIsSix : Type 0
+RejoinedIsSix =
+    (bottomLeft bottomRight topRight topLeft position : Position)
+    → insertTold (addControlPoint millionth (mapAfterAll millionth (newTmesh oneLiteral bottomLeft bottomRight topRight topLeft) rejoined) 0 Right half position .answer)
+    ≡ refusedBy 6

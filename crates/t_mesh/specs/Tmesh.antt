@@ -32,6 +32,15 @@ meshStore mesh = record { points = mesh .points; made = mesh .made }
 abbrev pub storeOf : Tmesh → Store
 storeOf map = meshStore (map .mesh)
 
+-- with another store, the listing, the positions and the knots kept as they are
+abbrev pub withStore : Tmesh → Store → Tmesh
+withStore map store =
+    record {
+      mesh = record { points = store .points; made = store .made; positions = map .mesh .positions; listed = map .mesh .listed };
+      kept = map .kept;
+      knots = map .knots;
+    }
+
 -- whether a listing has a number, and a map does
 abbrev pub listedIn : List Bool → ℕ → Bool
 listedIn listed n = getD listed n false

@@ -1,6 +1,6 @@
 // The map and its parts.
 ghost use mathlib.Core.Path.{_≡_};
-ghost use Rattle.t_mesh.specs.Tmesh.{meshStore, corner, cornerStore, listedIn, newTmesh};
+ghost use Rattle.t_mesh.specs.Tmesh.{meshStore, withStore, corner, cornerStore, listedIn, newTmesh};
 use control_point::t_mesh_control_point::Side;
 use control_point::t_mesh_control_point::TmeshControlPoint;
 use control_point::t_mesh_control_point::loose_point;
@@ -37,6 +37,23 @@ pub fn store_of(mesh: Mesh) -> Store
         points,
         made: mesh.made,
     }
+}
+
+// A map with the store that a direct call left; its listing, its positions and its kept knots are as they were.
+pub fn with_store(mut map: Tmesh, store: Store) -> Tmesh
+    ensures { λ r. ⌜ r ≡ withStore map store ⌝ }
+{
+    let points = store.points;
+    let positions = map.mesh.positions;
+    let listed = map.mesh.listed;
+    let mesh = Mesh {
+        points,
+        made: store.made,
+        positions,
+        listed,
+    };
+    map.mesh = mesh;
+    map
 }
 
 // Whether a number is listed.

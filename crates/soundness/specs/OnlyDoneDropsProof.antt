@@ -1,0 +1,37 @@
+-- Only an insertion done drops the kept knots: every other call is defined so.
+use mathlib.Core.Path.{_≡_, refl, sym, ap, _∙_}
+use mathlib.Core.Bool.{Bool, true, false, true≢false}
+use lib.Ieee.{Float}
+use Rattle.control_point.specs.declared.refusal.Outcome.the-variants.{Done}
+use Rattle.insertion.specs.Insert.{insertPoint}
+use Rattle.insertion.specs.declared.insertion.InsertAnswer.{InsertAnswer}
+use Rattle.insertion.specs.declared.insertion.InsertAnswer.the-variants.{Done as Added, Torn, Refused}
+use Rattle.knot_vectors.specs.Knots.{AllKnots, all, none, allKnots, keeping, generateKnotVectors}
+use Rattle.knot_vectors.specs.declared.knots.Generated.{Generated}
+use Rattle.surface.specs.Evaluation.{withKnots, subsOf}
+use Rattle.t_mesh.specs.Insertion.{isDone, keptAfter, addControlPoint}
+use Rattle.t_mesh.specs.Tmesh.{storeOf, isListed}
+use Rattle.t_mesh.specs.declared.t_mesh.Tmesh.{Tmesh}
+use Rattle.calls.specs.Calls.{insertion, evaluation}
+use Rattle.mirror.specs.BoolLaws.{cond-case}
+use Rattle.soundness.specs.MapCalls.{entry, build, direct}
+use Rattle.soundness.specs.Theorems.{OnlyDoneDrops}
+
+-- an insertion that is not done
+kept-after : (kept : Bool) (answer : InsertAnswer) → kept ≡ true → isDone answer ≡ false → keptAfter kept answer ≡ true
+kept-after kept (Added opened inferred) k done = absurd (true≢false done)
+kept-after kept (Torn opened inferred) k done = k
+kept-after kept (Refused refusal) k done = k
+
+-- a building, done or refused
+kept-built : (map : Tmesh) (rows : AllKnots) → map .kept ≡ true → keeping map rows .map .kept ≡ true
+kept-built map (all rows) k = refl
+kept-built map (none refusal) k = k
+
+pub only-done-drops : OnlyDoneDrops
+unfolding addControlPoint subsOf withKnots generateKnotVectors
+only-done-drops e map (entry (insertion con d ratio position)) k done = kept-after (map .kept) (insertPoint e (storeOf map) (isListed map con) con d ratio .answer) k done
+only-done-drops e map (entry (evaluation s t)) k done =
+    cond-case (map .kept) (λ (generated : Generated). generated .map .kept ≡ true) _ _ (λ _. k) (λ _. kept-built map (allKnots e map) k)
+only-done-drops e map build k done = kept-built map (allKnots e map) k
+only-done-drops e map (direct call) k done = k
