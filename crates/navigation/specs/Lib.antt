@@ -1,2 +1,4 @@
 pub mod Walk
+pub mod Table
 pub mod WalkLaws
+pub mod TableLaws

@@ -3,10 +3,11 @@
 -- as the first, and the count of moves. A walk never makes more moves than there are points; needing one more is 9.
 use Prim.Native.Nat.{ℕ, zero, suc, _+_, _-_}
 use mathlib.Core.Bool.{cond}
+use mathlib.Core.List.{[], _∷_}
 use lib.Ieee.{Float, binary64, add}
 use Rattle.control_point.specs.Point.{isMade, isLink, sideRefusal}
-use Rattle.control_point.specs.Refusal.{refusalNumber}
 use Rattle.control_point.specs.Sides.{Sides}
+use Rattle.control_point.specs.Told.{Told, natural, float, tells, refusalTold}
 use Rattle.control_point.specs.declared.refusal.Refusal.the-variants.{NoPoint, Ring}
 use Rattle.control_point.specs.declared.t_mesh_direction.TmeshDirection.{TmeshDirection}
 use Rattle.control_point.specs.declared.t_mesh_control_point.Side.{Side}
@@ -14,10 +15,16 @@ use Rattle.control_point.specs.declared.t_mesh_control_point.Side.the-variants.
 use Rattle.navigation.specs.declared.walk.Walk.{Walk}
 use Rattle.navigation.specs.declared.walk.Walk.the-variants.{Reached, Refused}
 
--- its answer number
+-- what it tells: the point, the sum of the intervals and the count of moves, or the refusal's number
+abbrev pub reachedTold : ℕ → Float → ℕ → Told
+reachedTold n sum moves = tells (natural n ∷ (float sum ∷ (natural moves ∷ [])))
+
+abbrev pub walkTold : Walk → Told
+walkTold (Reached n sum moves) = reachedTold n sum moves
+walkTold (Refused refusal) = refusalTold refusal
+
 abbrev pub walkNumber : Walk → ℕ
-walkNumber (Reached n sum moves) = 0
-walkNumber (Refused refusal) = refusalNumber refusal
+walkNumber walk = walkTold walk .number
 
 -- a step over a side: on over a link, or the refusal
 abbrev pub stepOver : Side → (ℕ → Float → Walk) → Walk

@@ -1,6 +1,8 @@
 // The walk over a store's links.
 ghost use mathlib.Core.Path.{_≡_};
-ghost use Rattle.store.specs.Store.{navigateUntilCon};
+ghost use Rattle.navigation.specs.Table.{walkTable};
+ghost use Rattle.navigation.specs.Walk.{walkTold};
+ghost use Rattle.store.specs.Store.{navigateUntilCon, storeSides};
 use crate::store::Store;
 use control_point::sides::fill;
 use control_point::t_mesh_direction::TmeshDirection;
@@ -14,7 +16,8 @@ pub fn navigate_until_con(
     travel: TmeshDirection,
     watch: TmeshDirection,
 ) -> Walk
-    ensures { λ r. ⌜ r ≡ navigateUntilCon store start travel watch ⌝ }
+    ensures is { λ r. ⌜ r ≡ navigateUntilCon store start travel watch ⌝ }
+    ensures told { λ r. ⌜ walkTold r ≡ walkTable (storeSides store) (store .made) start travel watch ⌝ }
 {
     let made = store.made;
     let points = store.points;

@@ -37,7 +37,7 @@ walk-bytes-requires c κs = search needs
 
 returns : tie.Need-returns
 unfolding replayWalk
-returns c = let n = c .before .before in let k = n .before .before .before .before in rw (c .walk-bytes .ensures, c .before .walk-is-right .ensures, n .number-at .ensures, n .before .byte-at4 .ensures, n .before .before .byte-at3 .ensures, n .before .before .before .byte-at2 .ensures, k .navigate-until-con .ensures, k .before .byte-at .ensures, k .before .before .direction-at2 .ensures, k .before .before .before .direction-at .ensures) refl
+returns c = let n = c .before .before in let k = n .before .before .before .before in rw (c .walk-bytes .ensures, c .before .walk-is-right .ensures, n .number-at .ensures, n .before .byte-at4 .ensures, n .before .before .byte-at3 .ensures, n .before .before .before .byte-at2 .ensures, k .navigate-until-con .ensures .0, k .before .byte-at .ensures, k .before .before .direction-at2 .ensures, k .before .before .before .direction-at .ensures) refl
 
 pub replay-walk-spec : {M : Type 1} → statement M
 replay-walk-spec =
