@@ -1,7 +1,5 @@
 -- The answer numbers of documents 01 (1 to 16) and 02 (17 to 27), for their words. 0 is no refusal.
 use Prim.Native.Nat.{ℕ}
-use Rattle.control_point.specs.declared.refusal.Outcome.{Outcome}
-use Rattle.control_point.specs.declared.refusal.Outcome.the-variants.{Done, Refused}
 use Rattle.control_point.specs.declared.refusal.Refusal.{Refusal}
 use Rattle.control_point.specs.declared.refusal.Refusal.the-variants.{Ratio, Foreign, OpenSide, BorderSide, Taken, Interval, Itself, Torn, Ring, Full, NoPoint, Length, Version, Heading, NoWeight, Short, Pull, Clash, Shut, OffMap, Seed, TooMany, UnlikeHeads, TooLong, Closeness, Ticks, Doubled}
 
@@ -33,7 +31,3 @@ refusalNumber TooLong = 24
 refusalNumber Closeness = 25
 refusalNumber Ticks = 26
 refusalNumber Doubled = 27
-
-abbrev pub outcomeNumber : Outcome → ℕ
-outcomeNumber Done = 0
-outcomeNumber (Refused refusal) = refusalNumber refusal

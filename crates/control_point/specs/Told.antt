@@ -43,6 +43,9 @@ abbrev pub outcomeTold : Outcome → Told
 outcomeTold Done = tells []
 outcomeTold (Refused refusal) = refusalTold refusal
 
+abbrev pub outcomeNumber : Outcome → ℕ
+outcomeNumber outcome = outcomeTold outcome .number
+
 abbrev pub sideTold : SideAnswer → Told
 sideTold (Is found) = tells (side found ∷ [])
 sideTold (NoSide refusal) = refusalTold refusal

@@ -1,6 +1,7 @@
 // Why a call is refused: the words of documents 01 and 02, in the order of their numbers.
 ghost use mathlib.Core.Path.{_≡_};
-ghost use Rattle.control_point.specs.Refusal.{refusalNumber, outcomeNumber};
+ghost use Rattle.control_point.specs.Refusal.{refusalNumber};
+ghost use Rattle.control_point.specs.Told.{outcomeNumber};
 
 pub enum Refusal {
     Ratio,

@@ -8,7 +8,7 @@ use lib.Ieee.{Float}
 use Rattle.control_point.specs.Connect.{connectable}
 use Rattle.control_point.specs.Point.{sideOf, isLink, isBorder, isMade, loosePoint}
 use Rattle.control_point.specs.PointLaws.{isMade-made, isMade-room}
-use Rattle.control_point.specs.Refusal.{outcomeNumber}
+use Rattle.control_point.specs.Told.{outcomeNumber}
 use Rattle.control_point.specs.declared.refusal.Outcome.{Outcome}
 use Rattle.control_point.specs.declared.refusal.Outcome.the-variants.{Done, Refused}
 use Rattle.control_point.specs.declared.refusal.Refusal.{Refusal}

@@ -3,7 +3,8 @@
 use Prim.Native.Nat.{ℕ}
 use mathlib.Core.List.{List, [], _∷_}
 use lib.Ieee.{Float}
-use Rattle.control_point.specs.Refusal.{refusalNumber, outcomeNumber}
+use Rattle.control_point.specs.Refusal.{refusalNumber}
+use Rattle.control_point.specs.Told.{outcomeNumber}
 use Rattle.navigation.specs.Walk.{walkNumber}
 use Rattle.control_point.specs.declared.sides.SideAnswer.{SideAnswer}
 use Rattle.control_point.specs.declared.sides.SideAnswer.the-variants.{Is, Refused}

@@ -1,6 +1,6 @@
 -- A refused call leaves the store, because each call's answer is either a refusal with the store as it was, or 0.
 use mathlib.Core.Path.{_≡_, refl}
-use Rattle.control_point.specs.Refusal.{outcomeNumber}
+use Rattle.control_point.specs.Told.{outcomeNumber}
 use Rattle.store.specs.declared.store.Changed.{Changed}
 use Rattle.store.specs.declared.store.Store.{Store}
 use Rattle.mirror.specs.CallLaws.{Settles, refuses, changes, every-call}

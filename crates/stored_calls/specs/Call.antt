@@ -5,7 +5,8 @@ use mathlib.Core.Bool.{Bool, cond, _&&_}
 use mathlib.Core.List.{List}
 use lib.Dec.{eqb}
 use Rattle.control_point.specs.Direction.{directionNumbered}
-use Rattle.control_point.specs.Refusal.{refusalNumber, outcomeNumber}
+use Rattle.control_point.specs.Refusal.{refusalNumber}
+use Rattle.control_point.specs.Told.{outcomeNumber}
 use Rattle.control_point.specs.declared.t_mesh_direction.TmeshDirection.{TmeshDirection}
 use Rattle.navigation.specs.declared.walk.Walk.{Walk}
 use Rattle.navigation.specs.declared.walk.Walk.the-variants.{Reached, Refused}
