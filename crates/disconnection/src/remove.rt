@@ -1,6 +1,13 @@
 // Opening a connection, which is a link or a border.
+ghost use Prim.Native.Nat.{ℕ};
 ghost use mathlib.Core.Path.{_≡_};
-ghost use Rattle.store.specs.Store.{removeConnection};
+ghost use lib.Ieee.{Float};
+ghost use Rattle.control_point.specs.Direction.{flipOf};
+ghost use Rattle.control_point.specs.Told.{outcomeTold};
+ghost use Rattle.control_point.specs.declared.refusal.Outcome.the-variants.{Done};
+ghost use Rattle.control_point.specs.declared.t_mesh_control_point.Side.the-variants.{Link, Opening};
+ghost use Rattle.store.specs.Store.{removeConnection, storeSides};
+ghost use Rattle.store.specs.Tables.{removeConnectionTable};
 use control_point::refusal::Outcome;
 use control_point::refusal::Refusal;
 use control_point::t_mesh_control_point::Side;
@@ -17,7 +24,9 @@ use store::store::with_point;
 
 // Opens a link at both ends, a border at one.
 pub fn remove_connection(store: Store, n: u8, direction: TmeshDirection) -> Changed
-    ensures { λ r. ⌜ r ≡ removeConnection store n direction ⌝ }
+    ensures is { λ r. ⌜ r ≡ removeConnection store n direction ⌝ }
+    ensures told { λ r. ⌜ outcomeTold (r .outcome) ≡ removeConnectionTable store n direction ⌝ }
+    ensures opens { λ r. ⌜ (r .outcome ≡ Done → (storeSides (r .store) n direction ≡ Opening) × ((m : ℕ) (interval : Float) → storeSides store n direction ≡ Link m interval → storeSides (r .store) m (flipOf direction) ≡ Opening)) ⌝ }
 {
     let made = store.made;
     if !is_made(made, n) {

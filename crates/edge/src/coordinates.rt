@@ -2,7 +2,9 @@
 ghost use mathlib.Core.Path.{_≡_};
 ghost use mathlib.Core.Bool.{_&&_};
 ghost use Rattle.control_point.specs.Point.{isBorder};
+ghost use Rattle.control_point.specs.Told.{outcomeTold};
 ghost use Rattle.store.specs.Store.{setKnotCoordinates, allBorders, coordinated};
+ghost use Rattle.store.specs.Tables.{setKnotCoordinatesTable};
 use control_point::refusal::Outcome;
 use control_point::refusal::Refusal;
 use control_point::t_mesh_control_point::Side;
@@ -41,7 +43,8 @@ fn at_coordinates(point: TmeshControlPoint, s: f64, t: f64) -> TmeshControlPoint
 
 // Sets the coordinates of a point that has only borders.
 pub fn set_knot_coordinates(store: Store, n: u8, s: f64, t: f64) -> Changed
-    ensures { λ r. ⌜ r ≡ setKnotCoordinates store n s t ⌝ }
+    ensures is { λ r. ⌜ r ≡ setKnotCoordinates store n s t ⌝ }
+    ensures told { λ r. ⌜ outcomeTold (r .outcome) ≡ setKnotCoordinatesTable store n ⌝ }
 {
     let made = store.made;
     if !is_made(made, n) {

@@ -2,9 +2,9 @@
 ghost use mathlib.Core.Path.{_≡_};
 ghost use Rattle.control_point.specs.Told.{outcomeTold};
 ghost use Rattle.control_point.specs.declared.refusal.Outcome.the-variants.{Done};
-ghost use Rattle.control_point.specs.declared.t_mesh_control_point.Side.the-variants.{Border};
+ghost use Rattle.control_point.specs.declared.t_mesh_control_point.Side.the-variants.{Border, Opening};
 ghost use Rattle.store.specs.Store.{setEdgeConWeight, removeEdgeCondition, storeSides};
-ghost use Rattle.store.specs.Tables.{setEdgeConWeightTable};
+ghost use Rattle.store.specs.Tables.{setEdgeConWeightTable, removeEdgeConditionTable};
 use control_point::refusal::Outcome;
 use control_point::refusal::Refusal;
 use control_point::t_mesh_control_point::Side;
@@ -40,7 +40,9 @@ pub fn set_edge_con_weight(store: Store, n: u8, direction: TmeshDirection, weigh
 
 // Opens a border.
 pub fn remove_edge_condition(store: Store, n: u8, direction: TmeshDirection) -> Changed
-    ensures { λ r. ⌜ r ≡ removeEdgeCondition store n direction ⌝ }
+    ensures is { λ r. ⌜ r ≡ removeEdgeCondition store n direction ⌝ }
+    ensures told { λ r. ⌜ outcomeTold (r .outcome) ≡ removeEdgeConditionTable store n direction ⌝ }
+    ensures opens { λ r. ⌜ (r .outcome ≡ Done → storeSides (r .store) n direction ≡ Opening) ⌝ }
 {
     let made = store.made;
     if !is_made(made, n) {

@@ -3,15 +3,12 @@
 use Prim.Native.Nat.{ℕ}
 use mathlib.Core.List.{List, [], _∷_}
 use lib.Ieee.{Float}
-use Rattle.control_point.specs.Refusal.{refusalNumber}
-use Rattle.control_point.specs.Told.{outcomeNumber}
+use Rattle.control_point.specs.Told.{outcomeNumber, sideTold}
 use Rattle.navigation.specs.Walk.{walkNumber}
 use Rattle.control_point.specs.declared.sides.SideAnswer.{SideAnswer}
-use Rattle.control_point.specs.declared.sides.SideAnswer.the-variants.{Is, Refused}
 use Rattle.control_point.specs.declared.t_mesh_direction.TmeshDirection.{TmeshDirection}
-use Rattle.store.specs.Store.{makeLoose, connectPoints, removeConnection, removeEdgeCondition, setEdgeConWeight, setKnotCoordinates, navigateUntilCon, readSide, readPoint}
+use Rattle.store.specs.Store.{makeLoose, connectPoints, removeConnection, removeEdgeCondition, setEdgeConWeight, setKnotCoordinates, navigateUntilCon, readSide, readPoint, pointTold}
 use Rattle.store.specs.declared.store.PointAnswer.{PointAnswer}
-use Rattle.store.specs.declared.store.PointAnswer.the-variants.{Is as PointIs, Refused as PointRefused}
 use Rattle.store.specs.declared.store.Store.{Store}
 
 -- a direct call with its arguments: numbers of points, directions, then floats (weight, interval, s and t); the walk's are its start,
@@ -29,12 +26,10 @@ pub data Call : Type 0 where
 
 -- the answer numbers of a side read and of a point read
 abbrev pub sideNumber : SideAnswer → ℕ
-sideNumber (Is side) = 0
-sideNumber (Refused refusal) = refusalNumber refusal
+sideNumber answer = sideTold answer .number
 
 abbrev pub pointNumber : PointAnswer → ℕ
-pointNumber (PointIs p) = 0
-pointNumber (PointRefused refusal) = refusalNumber refusal
+pointNumber answer = pointTold answer .number
 
 -- the store after a call
 abbrev pub callStore : Store → Call → Store

@@ -2,6 +2,7 @@
 -- after it, for all arguments. A number never made is 11, before all else; a refused call leaves the store as it was.
 use Prim.Native.Nat.{ℕ, _+_}
 use mathlib.Core.Bool.{Bool, cond, _&&_}
+use mathlib.Core.List.{List, [], _∷_}
 use lib.Dec.{ltb}
 use lib.Ieee.{Float}
 use lib.ListN.{set, replicate}
@@ -10,6 +11,7 @@ use Rattle.control_point.specs.Connect.{connectable}
 use Rattle.control_point.specs.Direction.{flipOf}
 use Rattle.control_point.specs.Point.{sideOf, withSide, movedFrom, loosePoint, isMade, isBorder, pointAt}
 use Rattle.control_point.specs.Sides.{Sides, sidesOf, sideAt}
+use Rattle.control_point.specs.Told.{Told, Value, float, side as sideValue, tells, refusalTold}
 use Rattle.navigation.specs.Walk.{walkOf}
 use Rattle.control_point.specs.declared.refusal.Outcome.{Outcome}
 use Rattle.control_point.specs.declared.refusal.Outcome.the-variants.{Done, Refused}
@@ -130,3 +132,11 @@ readSide store n d = sideAt (storeSides store) (store .made) n d
 
 abbrev pub readPoint : Store → ℕ → PointAnswer
 readPoint store n = cond (isMade (store .made) n) (Is (storePoint store n)) (NoneRead NoPoint)
+
+-- what a point read tells: its coordinates across and upwards, then its sides up, right, down and left; or the refusal's number
+abbrev pub pointValues : TmeshControlPoint → List Value
+pointValues p = float (p .s) ∷ (float (p .t) ∷ (sideValue (p .up) ∷ (sideValue (p .right) ∷ (sideValue (p .down) ∷ (sideValue (p .left) ∷ [])))))
+
+abbrev pub pointTold : PointAnswer → Told
+pointTold (Is p) = tells (pointValues p)
+pointTold (NoneRead refusal) = refusalTold refusal

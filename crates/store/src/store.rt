@@ -2,7 +2,13 @@
 ghost use mathlib.Core.Path.{_≡_};
 ghost use mathlib.Core.Bool.{cond};
 ghost use Prim.Native.Nat.{_<_};
-ghost use Rattle.store.specs.Store.{emptyStore, makeLoose, readPoint, readSide, storePoint, withPoint, done, refused};
+ghost use Rattle.control_point.specs.Point.{minusOne};
+ghost use Rattle.control_point.specs.Told.{outcomeTold, sideTold};
+ghost use Rattle.control_point.specs.declared.refusal.Outcome.the-variants.{Done};
+ghost use Rattle.control_point.specs.declared.t_mesh_control_point.Side.the-variants.{Border};
+ghost use Rattle.control_point.specs.declared.t_mesh_direction.TmeshDirection.{TmeshDirection};
+ghost use Rattle.store.specs.Store.{emptyStore, makeLoose, readPoint, readSide, storeSides, storePoint, withPoint, done, refused, pointTold};
+ghost use Rattle.store.specs.Tables.{makeLooseTable, readPointTable, readSideTable};
 use control_point::refusal::Outcome;
 use control_point::refusal::Refusal;
 use control_point::sides::SideAnswer;
@@ -44,7 +50,9 @@ pub fn empty_store() -> Store
 
 // One point more, with four borders of one weight.
 pub fn make_loose(store: Store, weight: f64) -> Changed
-    ensures { λ r. ⌜ r ≡ makeLoose store weight ⌝ }
+    ensures is { λ r. ⌜ r ≡ makeLoose store weight ⌝ }
+    ensures told { λ r. ⌜ outcomeTold (r .outcome) ≡ makeLooseTable store ⌝ }
+    ensures borders { λ r. ⌜ (r .outcome ≡ Done → ((d : TmeshDirection) → storeSides (r .store) (store .made) d ≡ Border weight) × ((storePoint (r .store) (store .made) .s ≡ minusOne) × (storePoint (r .store) (store .made) .t ≡ minusOne))) ⌝ }
 {
     let made = store.made;
     if 128 <= made {
@@ -81,7 +89,8 @@ pub fn with_point(store: Store, n: u8, point: TmeshControlPoint) -> Store
 }
 
 pub fn read_point(store: Store, n: u8) -> PointAnswer
-    ensures { λ r. ⌜ r ≡ readPoint store n ⌝ }
+    ensures is { λ r. ⌜ r ≡ readPoint store n ⌝ }
+    ensures told { λ r. ⌜ pointTold r ≡ readPointTable store n ⌝ }
 {
     let made = store.made;
     if is_made(made, n) {
@@ -92,7 +101,8 @@ pub fn read_point(store: Store, n: u8) -> PointAnswer
 }
 
 pub fn read_side(store: Store, n: u8, direction: TmeshDirection) -> SideAnswer
-    ensures { λ r. ⌜ r ≡ readSide store n direction ⌝ }
+    ensures is { λ r. ⌜ r ≡ readSide store n direction ⌝ }
+    ensures told { λ r. ⌜ sideTold r ≡ readSideTable store n direction ⌝ }
 {
     let made = store.made;
     if is_made(made, n) {

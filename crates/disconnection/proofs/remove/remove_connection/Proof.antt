@@ -1,17 +1,48 @@
 -- `remove_connection` meets its contract: the side decides; a link is opened here, and then at its other end.
-use mathlib.Core.Path.{_≡_, _∙_, sym, ap}
+use Prim.Native.Nat.{ℕ}
+use mathlib.Core.Path.{_≡_, _∙_, sym, ap, subst}
 use mathlib.Core.Bool.{true}
 use borrow.Author.Tests.{not-true, not-false}
 use borrow.Author.Needs.{needs}
+use lib.Ieee.{Float}
+use lib.ListN.{length, length-map}
+use Rattle.control_point.specs.Direction.{flipOf}
 use Rattle.control_point.specs.Point.{sideOf, isMade}
 use Rattle.control_point.specs.PointLaws.{isMade-room}
-use Rattle.control_point.specs.declared.t_mesh_control_point.Side.the-variants.{Link}
+use Rattle.control_point.specs.Told.{outcomeTold}
+use Rattle.control_point.specs.declared.refusal.Outcome.the-variants.{Done}
+use Rattle.control_point.specs.declared.t_mesh_control_point.Side.the-variants.{Link, Opening}
 use Rattle.control_point.specs.declared.t_mesh_control_point.TmeshControlPoint.{TmeshControlPoint}
-use Rattle.store.specs.Store.{storePoint, done, opened, removeConnection}
-use Rattle.disconnection.proofs.Opened.{opened-unlinked}
+use Rattle.store.specs.Store.{storeSides, storePoint, done, opened, removeConnection}
+use Rattle.store.specs.Tables.{removeConnectionTable}
+use Rattle.store.specs.TablesLaws.{removed-told, removed-opens}
+use Rattle.store.specs.declared.store.Changed.{Changed}
+use Rattle.disconnection.proofs.Opened.{opened-settled}
 use Rattle.disconnection.proofs.Stored.{opened-stored}
 use Rattle.disconnection.proofs.remove.remove_connection.Statement.{statement}
 use Rattle.disconnection.proofs.remove.remove_connection.Tie as tie
+
+-- the promises beside the equation follow from it
+room : (c : tie.Start) → length (c .args .store .points) ≡ 128
+room c = sym (length-map (c .args .store .points) _) ∙ c .good .0 .1 .1 .0 .1 .0 .1
+
+abbrev Opens : tie.Start → Changed → Type 0
+Opens c r =
+    let a = c .args in
+    r .outcome ≡ Done → (storeSides (r .store) (a .n) (a .direction) ≡ Opening)
+    × ((m : ℕ) (interval : Float) → storeSides (a .store) (a .n) (a .direction) ≡ Link m interval → storeSides (r .store) m (flipOf (a .direction)) ≡ Opening)
+
+promised : (c : tie.Start) (r : Changed) → let a = c .args in r ≡ removeConnection (a .store) (a .n) (a .direction)
+    → (r ≡ removeConnection (a .store) (a .n) (a .direction))
+    × ((outcomeTold (r .outcome) ≡ removeConnectionTable (a .store) (a .n) (a .direction)) × Opens c r)
+promised c r is =
+    let a = c .args in (
+      is,
+      (
+        ap (λ (x : Changed). outcomeTold (x .outcome)) is ∙ removed-told (a .store) (a .n) (a .direction),
+        subst (Opens c) (sym is) (removed-opens (a .store) (a .n) (a .direction) (room c)),
+      ),
+    )
 
 made : (c : tie.Else1) → isMade (c .before .before .args .store .made) (c .before .before .args .n) ≡ true
 made c = sym (c .before .is-made .ensures) ∙ not-false _ (c .if1 .left)
@@ -52,7 +83,7 @@ is-made-requires c κs = search needs
 
 returns : tie.Need-returns
 unfolding removeConnection
-returns c = simp (sym (c .before .is-made .ensures) ∙ not-true _ (c .if1 .taken))
+returns c = promised (c .before .before) _ (simp (sym (c .before .is-made .ensures) ∙ not-true _ (c .if1 .taken)))
 
 point-at-requires : tie.Need-point-at-requires
 point-at-requires c κs = isMade-room _ _ (made c)
@@ -75,16 +106,23 @@ settle-requires c κs = isMade-room _ _ (made (at-else (c .before .before .befor
 returns-2 : tie.Need-returns-2
 returns-2 c =
     let s = c .before .before .before .before in
-    let a = at-else s .before .before .args in
-    c .settle .ensures
-    ∙ rw (c .before .is-border .ensures, c .before .before .before .with-side .ensures, s .before .point-at .ensures)
-    (sym (decided s ∙ opened-unlinked (a .store) (a .n) (a .direction) (s .side-of .result) (c .before .before .match .keys2)))
+    let b = at-else s .before .before in
+    let a = b .args in
+    promised b _
+    (opened-settled (a .store) (a .n) (a .direction) (s .side-of .result) _ _ _ _ (c .before .before .match .keys2)
+    (s .before .point-at .ensures)
+    (c .before .before .before .with-side .ensures)
+    (c .before .is-border .ensures)
+    (c .settle .ensures)
+    ∙ sym (decided s))
 
 is-made-requires-2 : tie.Need-is-made-requires-2
 is-made-requires-2 c κs = search needs
 
 returns-3 : tie.Need-returns-3
-returns-3 c = sym (link-decided (c .before .before .before) ∙ simp (sym (c .before .is-made2 .ensures) ∙ not-true _ (c .if2 .taken)))
+returns-3 c =
+    let k = c .before .before .before in
+    promised (at-else (at-side k) .before .before) _ (sym (link-decided k ∙ simp (sym (c .before .is-made2 .ensures) ∙ not-true _ (c .if2 .taken))))
 
 with-point-requires : tie.Need-with-point-requires
 with-point-requires c κs = isMade-room _ _ (made (at-else (at-side (c .before .before .before))))
@@ -107,14 +145,16 @@ returns-4 c =
     let e = w .before in
     let k = e .before .before .before in
     let s = k .before .before in
-    let a = at-else (at-side k) .before .before .args in
-    ap done (opened-stored (a .store) (a .direction) _ (c .before .before .flip .ensures) _ _ (a .n) _ _ _ _ _ (s .before .before .point-at .ensures)
+    let b = at-else (at-side k) .before .before in
+    let a = b .args in
+    promised b _
+    (ap done (opened-stored (a .store) (a .direction) _ (c .before .before .flip .ensures) _ _ (a .n) _ _ _ _ _ (s .before .before .point-at .ensures)
     (s .with-side .ensures)
     (w .with-point .ensures)
     (c .before .before .before .point-at2 .ensures)
     (c .before .with-side2 .ensures)
     (c .with-point2 .ensures))
-    ∙ sym (link-decided k ∙ simp (far-made e))
+    ∙ sym (link-decided k ∙ simp (far-made e)))
 
 pub remove-connection-spec : {M : Type 1} → statement M
 remove-connection-spec =

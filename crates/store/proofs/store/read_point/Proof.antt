@@ -4,6 +4,9 @@ use mathlib.Core.Bool.{true}
 use borrow.Author.Needs.{needs}
 use Rattle.control_point.specs.Point.{isMade}
 use Rattle.control_point.specs.PointLaws.{isMade-room}
+use Rattle.control_point.specs.ToldLaws.{beside}
+use Rattle.store.specs.Store.{pointTold}
+use Rattle.store.specs.TablesLaws.{point-told}
 use Rattle.store.proofs.store.read_point.Statement.{statement}
 use Rattle.store.proofs.store.read_point.Tie as tie
 
@@ -17,10 +20,14 @@ point-at-requires : tie.Need-point-at-requires
 point-at-requires c κs = isMade-room _ _ (made c)
 
 returns : tie.Need-returns
-returns c = rw (c .point-at .ensures) (simp (made (c .before)))
+returns c =
+    let a = c .before .before .before .args in
+    beside pointTold _ _ (point-told (a .store) (a .n)) _ (rw (c .point-at .ensures) (simp (made (c .before))))
 
 returns-2 : tie.Need-returns-2
-returns-2 c = simp (sym (c .before .is-made .ensures) ∙ c .if1 .left)
+returns-2 c =
+    let a = c .before .before .args in
+    beside pointTold _ _ (point-told (a .store) (a .n)) _ (simp (sym (c .before .is-made .ensures) ∙ c .if1 .left))
 
 pub read-point-spec : {M : Type 1} → statement M
 read-point-spec = tie.close (tie.spec is-made-requires point-at-requires returns returns-2)

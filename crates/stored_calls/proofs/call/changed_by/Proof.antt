@@ -13,7 +13,7 @@ make-loose-requires c κs = search needs
 
 returns : tie.Need-returns
 unfolding change
-returns c = rw (c .make-loose .ensures, c .before .float-at .ensures) (simp (eq-eqb _ _ (c .before .before .if1 .taken)))
+returns c = rw (c .make-loose .ensures .0, c .before .float-at .ensures) (simp (eq-eqb _ _ (c .before .before .if1 .taken)))
 
 byte-at-requires : tie.Need-byte-at-requires
 byte-at-requires c κs = search needs
@@ -45,7 +45,7 @@ set-knot-coordinates-requires c κs = search needs
 
 returns-3 : tie.Need-returns-3
 unfolding change
-returns-3 c = let k = c .before .before .before in rw (c .set-knot-coordinates .ensures, c .before .float-at4 .ensures, c .before .before .float-at3 .ensures, k .before .before .byte-at .ensures) (simp (ne-eqb _ _ (k .before .before .before .if1 .left), ne-eqb _ _ (k .before .if2 .left), eq-eqb _ _ (k .if3 .taken)))
+returns-3 c = let k = c .before .before .before in rw (c .set-knot-coordinates .ensures .0, c .before .float-at4 .ensures, c .before .before .float-at3 .ensures, k .before .before .byte-at .ensures) (simp (ne-eqb _ _ (k .before .before .before .if1 .left), ne-eqb _ _ (k .before .if2 .left), eq-eqb _ _ (k .if3 .taken)))
 
 direction-at-requires-2 : tie.Need-direction-at-requires-2
 direction-at-requires-2 c κs = search needs
@@ -55,14 +55,14 @@ remove-connection-requires c κs = search needs
 
 returns-4 : tie.Need-returns-4
 unfolding change
-returns-4 c = let k = c .before .before .before in rw (c .remove-connection .ensures, c .before .before .direction-at2 .ensures, k .before .before .byte-at .ensures) (simp (ne-eqb _ _ (k .before .before .before .if1 .left), ne-eqb _ _ (k .before .if2 .left), ne-eqb _ _ (k .if3 .left), eq-eqb _ _ (c .before .if4 .taken)))
+returns-4 c = let k = c .before .before .before in rw (c .remove-connection .ensures .0, c .before .before .direction-at2 .ensures, k .before .before .byte-at .ensures) (simp (ne-eqb _ _ (k .before .before .before .if1 .left), ne-eqb _ _ (k .before .if2 .left), ne-eqb _ _ (k .if3 .left), eq-eqb _ _ (c .before .if4 .taken)))
 
 remove-edge-condition-requires : tie.Need-remove-edge-condition-requires
 remove-edge-condition-requires c κs = search needs
 
 returns-5 : tie.Need-returns-5
 unfolding change
-returns-5 c = let k = c .before .before .before .before in rw (c .remove-edge-condition .ensures, c .before .before .before .direction-at2 .ensures, k .before .before .byte-at .ensures) (simp (ne-eqb _ _ (k .before .before .before .if1 .left), ne-eqb _ _ (k .before .if2 .left), ne-eqb _ _ (k .if3 .left), ne-eqb _ _ (c .before .before .if4 .left), eq-eqb _ _ (c .before .if5 .taken)))
+returns-5 c = let k = c .before .before .before .before in rw (c .remove-edge-condition .ensures .0, c .before .before .before .direction-at2 .ensures, k .before .before .byte-at .ensures) (simp (ne-eqb _ _ (k .before .before .before .if1 .left), ne-eqb _ _ (k .before .if2 .left), ne-eqb _ _ (k .if3 .left), ne-eqb _ _ (c .before .before .if4 .left), eq-eqb _ _ (c .before .if5 .taken)))
 
 float-at-requires-5 : tie.Need-float-at-requires-5
 float-at-requires-5 c κs = search needs
