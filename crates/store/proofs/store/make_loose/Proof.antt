@@ -1,18 +1,22 @@
 -- `make_loose` meets its contract: there is room where fewer than 128 points are made.
+use Prim.Native.Nat.{ℕ, _+_}
 use mathlib.Core.Path.{_≡_, _∙_, sym, ap, subst}
 use native.Mathlib.Omega.{arith}
 use borrow.Author.Tests.{lt-ltb, le-ltb}
 use borrow.Author.Needs.{needs}
-use lib.ListN.{length, length-map}
-use Rattle.control_point.specs.Point.{minusOne}
+use lib.Ieee.{Float}
+use lib.ListN.{length, length-map, set}
+use Rattle.control_point.specs.Point.{loosePoint, minusOne}
 use Rattle.control_point.specs.Told.{outcomeTold}
 use Rattle.control_point.specs.declared.refusal.Outcome.the-variants.{Done}
 use Rattle.control_point.specs.declared.t_mesh_control_point.Side.the-variants.{Border}
+use Rattle.control_point.specs.declared.t_mesh_control_point.TmeshControlPoint.{TmeshControlPoint}
 use Rattle.control_point.specs.declared.t_mesh_direction.TmeshDirection.{TmeshDirection}
-use Rattle.store.specs.Store.{storeSides, storePoint, makeLoose}
+use Rattle.store.specs.Store.{storeSides, storePoint, withNew, done, makeLoose}
 use Rattle.store.specs.Tables.{makeLooseTable}
 use Rattle.store.specs.TablesLaws.{loose-told, loose-borders}
 use Rattle.store.specs.declared.store.Changed.{Changed}
+use Rattle.store.specs.declared.store.Store.{Store}
 use Rattle.store.proofs.store.make_loose.Statement.{statement}
 use Rattle.store.proofs.store.make_loose.Tie as tie
 
@@ -37,6 +41,11 @@ promised c r is =
       ),
     )
 
+-- a loose point stored under the next number
+made-stored : (store : Store) (weight : Float) (place : ℕ) (point : TmeshControlPoint) → place ≡ store .made → point ≡ loosePoint weight
+    → done (record { points = set (store .points) place point; made = store .made + 1 }) ≡ done (withNew store (loosePoint weight))
+made-stored store weight place point p l = rw (p, l)
+
 returns : tie.Need-returns
 unfolding makeLoose
 returns c = promised (c .before) _ (simp (le-ltb (c .before .args .store .made) 128 (omega arith)))
@@ -58,7 +67,10 @@ add-next c = search needs
 
 returns-2 : tie.Need-returns-2
 unfolding makeLoose
-returns-2 c = promised (c .before .before .before) _ (simp (lt-ltb _ _ (c .before .before .if1 .left)) (rw (c .wide .ensures, c .before .loose-point .ensures)))
+returns-2 c =
+    let e = c .before .before in
+    let s = e .before in
+    promised s _ (simp (lt-ltb _ _ (e .if1 .left)) (made-stored (s .args .store) (s .args .weight) _ _ (c .wide .ensures) (c .before .loose-point .ensures)))
 
 pub make-loose-spec : {M : Type 1} → statement M
 make-loose-spec =
