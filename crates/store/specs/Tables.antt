@@ -1,5 +1,5 @@
--- The tables of the direct calls on a store: the number that each tells, by its tests in order. A call that is done tells no value, one that
--- reads what it read.
+-- The tables of the direct calls on a store: the number that each tells, by its tests in order. A call that is done tells no value; one that
+-- only reads tells what it read.
 use Prim.Native.Nat.{ℕ}
 use mathlib.Core.Bool.{not, _&&_, _||_}
 use mathlib.Core.List.{[], _∷_}
@@ -54,7 +54,7 @@ setKnotCoordinatesTable store n =
     (unless 5 (allBorders (storePoint store n))
     (tells []))
 
--- ---- reading
+-- ---- reading: a number never made 11, else the side, or the point
 abbrev pub readSideTable : Store → ℕ → TmeshDirection → Told
 readSideTable store n d = unless 11 (isMade (store .made) n) (tells (side (storeSides store n d) ∷ []))
 
