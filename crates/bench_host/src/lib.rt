@@ -181,11 +181,10 @@ pub extern "C" fn bench_evaluations(edits: &[u8], repeats: u64) -> u64 {
     float64::to_bits(sum)
 }
 
-// The same over the map lent once, its knots built before.
+// The same over the map lent once.
 #[no_mangle]
 pub extern "C" fn bench_lent_evaluations(edits: &[u8], repeats: u64) -> u64 {
-    let generated = generate_knot_vectors(map_of(edits));
-    let map = generated.map;
+    let map = map_of(edits);
     let knots = [0.0; 5];
     let position = [0.0; 3];
     let mut across = [knots; 128];

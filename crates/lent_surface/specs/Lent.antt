@@ -1,19 +1,34 @@
 -- A map lent for evaluation: of each point its knots across, its knots upwards, its position and whether it is listed, each in an array of its
--- own. Such arrays hold a map where its points have these; a value is theirs if it is that of each map that they hold.
-use Prim.Native.Nat.{ℕ, _<_}
-use mathlib.Core.Bool.{Bool}
-use mathlib.Core.List.{List, [], _∷_}
+-- own. A map is lent with its knots kept, those that it keeps or those built, as `subs` has them; where building them is refused nothing is
+-- lent. e is the closeness.
+use Prim.Native.Nat.{ℕ, zero, suc, _+_}
+use mathlib.Core.Bool.{Bool, true, false, cond}
+use mathlib.Core.List.{List, [], _∷_, map}
 use mathlib.Core.Path.{_≡_}
 use lib.Ieee.{Float, nan}
-use lib.ListN.{length, getD, set}
+use lib.ListN.{length, getD, replicate}
+use Rattle.float64.specs.Literals.{zeroLiteral}
+use Rattle.control_point.specs.Told.{Told, tells, outcomeTold}
+use Rattle.control_point.specs.declared.refusal.Outcome.{Outcome}
+use Rattle.control_point.specs.declared.refusal.Outcome.the-variants.{Done, Refused}
+use Rattle.store.specs.Store.{emptyStore}
 use Rattle.ray.specs.declared.knots.PointKnots.{PointKnots}
-use Rattle.surface.specs.Evaluation.{knotsOf, positionOf, valueOf}
-use Rattle.surface.specs.declared.evaluation.Evaluation.{Evaluation}
-use Rattle.t_mesh.specs.Tmesh.{listedIn, isListed}
 use Rattle.t_mesh.specs.declared.t_mesh.Position.{Position}
 use Rattle.t_mesh.specs.declared.t_mesh.Tmesh.{Tmesh}
+use Rattle.knot_vectors.specs.Knots.{generateKnotVectors}
+use Rattle.knot_vectors.specs.declared.knots.Generated.{Generated}
+use Rattle.surface.specs.Evaluation.{withKnots}
 
 -- ---- the arrays
+pub record LentArrays : Type 0 where
+  pub across : List (List Float)
+  pub upwards : List (List Float)
+  pub positions : List (List Float)
+  pub listed : List Bool
+
+abbrev pub lent : List (List Float) → List (List Float) → List (List Float) → List Bool → LentArrays
+lent across upwards positions listed = record { across = across; upwards = upwards; positions = positions; listed = listed }
+
 -- a point's knots
 abbrev pub lentKnots : List (List Float) → List (List Float) → ℕ → PointKnots
 lentKnots across upwards n = record { s = getD across n []; t = getD upwards n [] }
@@ -22,24 +37,47 @@ lentKnots across upwards n = record { s = getD across n []; t = getD upwards n [
 abbrev pub lentPosition : List (List Float) → ℕ → Position
 lentPosition positions n = record { x = getD (getD positions n []) 0 nan; y = getD (getD positions n []) 1 nan; z = getD (getD positions n []) 2 nan }
 
--- with another position
-abbrev pub withPosition : List (List Float) → ℕ → Position → List (List Float)
-withPosition positions n p = set positions n (p .x ∷ (p .y ∷ (p .z ∷ [])))
+abbrev pub inTurn : Position → List Float
+inTurn p = p .x ∷ (p .y ∷ (p .z ∷ []))
 
 -- they have their lengths
 abbrev pub Full : List (List Float) → List (List Float) → List (List Float) → Type 0
 Full across upwards positions = (length across ≡ 128) × ((length upwards ≡ 128) × (length positions ≡ 128))
 
-abbrev pub Room : List (List Float) → List (List Float) → List (List Float) → List Bool → Type 0
-Room across upwards positions listed = Full across upwards positions × (length listed ≡ 128)
+-- ---- the map that they hold: its knots are kept; of its points, which no evaluation reads, none is made
+-- the values of a function at so many numbers, from n on
+unfoldable pub valuesFrom : {A : Type 0} → (ℕ → A) → ℕ → ℕ → List A
+valuesFrom f zero n = []
+valuesFrom f (suc left) n = f n ∷ valuesFrom f left (n + 1)
 
--- ---- the map
--- the arrays hold it
-pub record Holds (across upwards positions : List (List Float)) (listed : List Bool) (map : Tmesh) : Type 0 where
-  pub same-knots : (n : ℕ) → n < 128 → lentKnots across upwards n ≡ knotsOf map n
-  pub same-position : (n : ℕ) → n < 128 → lentPosition positions n ≡ positionOf map n
-  pub same-listing : (n : ℕ) → n < 128 → listedIn listed n ≡ isListed map n
+abbrev pub heldMap : List (List Float) → List (List Float) → List (List Float) → List Bool → Tmesh
+heldMap across upwards positions listed =
+    record {
+      mesh = record { points = emptyStore .points; made = emptyStore .made; positions = valuesFrom (lentPosition positions) 128 0; listed = listed };
+      kept = true;
+      knots = valuesFrom (lentKnots across upwards) 128 0;
+    }
 
--- a value is that of each map that they hold
-abbrev pub Values : List (List Float) → List (List Float) → List (List Float) → List Bool → Float → Float → Evaluation → Type 0
-Values across upwards positions listed s t value = (map : Tmesh) → Holds across upwards positions listed map → value ≡ valueOf map s t
+abbrev pub heldBy : LentArrays → Tmesh
+heldBy arrays = heldMap (arrays .across) (arrays .upwards) (arrays .positions) (arrays .listed)
+
+-- ---- `lend`
+-- a map's arrays
+unfoldable pub lentOf : Tmesh → LentArrays
+lentOf own = lent (map (λ k. k .s) (own .knots)) (map (λ k. k .t) (own .knots)) (map inTurn (own .mesh .positions)) (own .mesh .listed)
+
+-- nothing lent: all 0.0, and nothing listed
+unfoldable pub noneLent : LentArrays
+noneLent = lent (replicate 128 (replicate 5 zeroLiteral)) (replicate 128 (replicate 5 zeroLiteral)) (replicate 128 (replicate 3 zeroLiteral)) (replicate 128 false)
+
+abbrev pub lentAfter : Outcome → Tmesh → LentArrays
+lentAfter Done own = lentOf own
+lentAfter (Refused refusal) own = noneLent
+
+-- the map with its knots kept, or why there are none and the map as it was; and the arrays
+unfoldable pub lendOf : Float → Tmesh → Generated × LentArrays
+lendOf e own = (withKnots e own, lentAfter (withKnots e own .outcome) (withKnots e own .map))
+
+-- its table: done where knots are kept, else what building them tells
+abbrev pub lendTable : Float → Tmesh → Told
+lendTable e own = cond (own .kept) (tells []) (outcomeTold (generateKnotVectors e own .outcome))

@@ -1,2 +1,4 @@
 pub mod Lent
 pub mod LentLaws
+pub mod LentIsSubs
+pub mod LentIsSubsProof

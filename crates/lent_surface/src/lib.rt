@@ -2,14 +2,49 @@
 ghost use mathlib.Core.Path.{_≡_};
 ghost use Prim.Native.Nat.{_<_};
 ghost use lib.ListN.{set};
-ghost use Rattle.surface.specs.Evaluation.{shareBy};
-ghost use Rattle.lent_surface.specs.Lent.{lentKnots, lentPosition, withPosition, Full, Room, Holds, Values};
+ghost use Rattle.control_point.specs.Small.{millionth};
+ghost use Rattle.control_point.specs.Told.{outcomeTold};
+ghost use Rattle.surface.specs.Evaluation.{shareBy, valueOf, withKnots};
+ghost use Rattle.lent_surface.specs.Lent.{Full, lent, lentKnots, lentPosition, inTurn, heldMap, lentOf, noneLent, lendOf, lendTable};
 use basis::basis_function;
+use control_point::refusal::Outcome;
+use knot_vectors::knots::Generated;
+use knot_vectors::knots::generate_knot_vectors;
 use ray::knots::PointKnots;
 use surface::evaluation::Evaluation;
 use surface::evaluation::Share;
 use t_mesh::t_mesh::Position;
 use t_mesh::t_mesh::Tmesh;
+
+// A map with knots kept, or why there are none.
+fn with_knots(map: Tmesh) -> Generated
+    ensures { λ r. ⌜ r ≡ withKnots millionth map ⌝ }
+{
+    if map.kept {
+        return Generated {
+            outcome: Outcome::Done,
+            map,
+        };
+    }
+    generate_knot_vectors(map)
+}
+
+// Nothing lent.
+fn lend_none(
+    across: &mut [[f64; 5]; 128],
+    upwards: &mut [[f64; 5]; 128],
+    positions: &mut [[f64; 3]; 128],
+    listed: &mut [bool; 128],
+)
+    ensures { λ _. ⌜ lent (now (across .exit)) (now (upwards .exit)) (now (positions .exit)) (now (listed .exit)) ≡ noneLent ⌝ }
+{
+    let knots = [0.0; 5];
+    let position = [0.0; 3];
+    *across = [knots; 128];
+    *upwards = [knots; 128];
+    *positions = [position; 128];
+    *listed = [false; 128];
+}
 
 // A point's knots and position under its number.
 fn lend_point(
@@ -21,7 +56,7 @@ fn lend_point(
     position: Position,
 )
     requires { ⌜ (n < 128) × Full (now across) (now upwards) (now positions) ⌝ }
-    ensures { λ _. ⌜ (now (across .exit) ≡ set (now (across .entry)) n (knots .s)) × ((now (upwards .exit) ≡ set (now (upwards .entry)) n (knots .t)) × (now (positions .exit) ≡ withPosition (now (positions .entry)) n position)) ⌝ }
+    ensures { λ _. ⌜ (now (across .exit) ≡ set (now (across .entry)) n (knots .s)) × ((now (upwards .exit) ≡ set (now (upwards .entry)) n (knots .t)) × (now (positions .exit) ≡ set (now (positions .entry)) n (inTurn position))) ⌝ }
 {
     let s = knots.s;
     let t = knots.t;
@@ -31,16 +66,16 @@ fn lend_point(
     positions[n] = place;
 }
 
-// A map, lent. The type of the arrays meets the premise.
-pub fn lend(
+// Every point of a map, and the listing.
+fn lend_all(
     across: &mut [[f64; 5]; 128],
     upwards: &mut [[f64; 5]; 128],
     positions: &mut [[f64; 3]; 128],
     listed: &mut [bool; 128],
     map: Tmesh,
 )
-    requires { ⌜ Room (now across) (now upwards) (now positions) (now listed) ⌝ }
-    ensures { λ _. ⌜ Room (now (across .exit)) (now (upwards .exit)) (now (positions .exit)) (now (listed .exit)) × Holds (now (across .exit)) (now (upwards .exit)) (now (positions .exit)) (now (listed .exit)) map ⌝ }
+    requires { ⌜ Full (now across) (now upwards) (now positions) ⌝ }
+    ensures { λ _. ⌜ lent (now (across .exit)) (now (upwards .exit)) (now (positions .exit)) (now (listed .exit)) ≡ lentOf map ⌝ }
 {
     let listing = map.mesh.listed;
     *listed = listing;
@@ -50,6 +85,27 @@ pub fn lend(
         lend_point(across, upwards, positions, n, map.knots[n], places[n]);
         n += 1;
     }
+}
+
+// A map, lent with its knots; they are built only if none are kept. Where that is refused nothing is lent, and the map comes back as it was.
+pub fn lend(
+    across: &mut [[f64; 5]; 128],
+    upwards: &mut [[f64; 5]; 128],
+    positions: &mut [[f64; 3]; 128],
+    listed: &mut [bool; 128],
+    map: Tmesh,
+) -> Generated
+    ensures is { λ r. ⌜ (r, lent (now (across .exit)) (now (upwards .exit)) (now (positions .exit)) (now (listed .exit))) ≡ lendOf millionth map ⌝ }
+    ensures told { λ r. ⌜ outcomeTold (r .outcome) ≡ lendTable millionth map ⌝ }
+{
+    lend_none(across, upwards, positions, listed);
+    let built = with_knots(map);
+    let outcome = built.outcome;
+    if let Outcome::Refused(_) = outcome {
+        return built;
+    }
+    lend_all(across, upwards, positions, listed, built.map);
+    built
 }
 
 // What a point adds at (s, t).
@@ -74,7 +130,7 @@ fn lent_share<'a>(
     }
 }
 
-// The value at (s, t), by the knots lent.
+// The value at (s, t) of the map that the arrays hold.
 pub fn lent_value<'a>(
     across: &'a [[f64; 5]; 128],
     upwards: &'a [[f64; 5]; 128],
@@ -83,7 +139,7 @@ pub fn lent_value<'a>(
     s: f64,
     t: f64,
 ) -> Evaluation
-    ensures { λ r. ⌜ Values (now (across .entry)) (now (upwards .entry)) (now (positions .entry)) (now (listed .entry)) s t r ⌝ }
+    ensures { λ r. ⌜ r ≡ valueOf (heldMap (now (across .entry)) (now (upwards .entry)) (now (positions .entry)) (now (listed .entry))) s t ⌝ }
 {
     let mut x = 0.0;
     let mut y = 0.0;

@@ -14,9 +14,6 @@ abbrev μ-loop : tie.MeasureT-loop
 map-of-requires : tie.Need-map-of-requires Inv-loop μ-loop
 map-of-requires c κs = search needs
 
-generate-knot-vectors-requires : tie.Need-generate-knot-vectors-requires Inv-loop μ-loop
-generate-knot-vectors-requires c κs = search needs
-
 lend-requires : tie.Need-lend-requires Inv-loop μ-loop
 lend-requires c κs = search needs
 
@@ -48,7 +45,6 @@ bench-lent-evaluations-spec =
     Inv-loop
     μ-loop
     map-of-requires
-    generate-knot-vectors-requires
     lend-requires
     loop-holds
     lent-value-requires

@@ -1,78 +1,50 @@
--- `lend` meets its contract: the points below n stand in the arrays, and the listing is stored whole.
-use Prim.Native.Nat.{_≤_, _-_}
-use mathlib.Core.Path.{_≡_, sym, _∙_}
-use native.Mathlib.Omega.{arith}
+-- `lend` meets its contract: the knots are the definition's, and the arrays follow what came of them.
 use borrow.Author.Needs.{needs}
-use lib.ListN.{length, length-map}
-use Rattle.lent_surface.specs.LentLaws.{FilledTo, filled-none, filled-more, filled-holds}
+use mathlib.Core.Path.{_≡_}
+use Rattle.control_point.specs.Small.{millionth}
+use Rattle.control_point.specs.Told.{outcomeTold}
+use Rattle.control_point.specs.ToldLaws.{beside}
+use Rattle.t_mesh.specs.declared.t_mesh.Tmesh.{Tmesh}
+use Rattle.knot_vectors.specs.declared.knots.Generated.{Generated}
+use Rattle.lent_surface.specs.Lent.{LentArrays, lent, lendOf, lendTable}
+use Rattle.lent_surface.specs.LentLaws.{none-full, lend-done, lend-refused, lend-told}
 use Rattle.lent_surface.proofs.lend.Statement.{statement}
 use Rattle.lent_surface.proofs.lend.Tie as tie
 
-abbrev Inv-loop : tie.InvT-loop
-Inv-loop across₀ upwards₀ positions₀ listed map places n₀ across upwards positions n = (n ≤ 128) × FilledTo n across upwards positions map
+lend-none-requires : tie.Need-lend-none-requires
+lend-none-requires c κs = search needs
 
-abbrev μ-loop : tie.MeasureT-loop
-μ-loop across₀ upwards₀ positions₀ listed map places n₀ across upwards positions n = 128 - n
+with-knots-requires : tie.Need-with-knots-requires
+with-knots-requires c κs = search needs
 
-room : (c : tie.Start Inv-loop μ-loop) → length (c .args .t5 .mesh .listed) ≡ 128
-room c = sym (length-map (c .args .t5 .mesh .listed) _) ∙ c .good .1 .1 .1 .1 .0 .1 .1 .0 .1 .1 .1 .1 .1 .0 .1 .0 .1
+enum-told : tie.Need-enum-told
+enum-told c = search needs
 
-loop-holds : tie.Need-loop-holds Inv-loop μ-loop
-loop-holds c =
-    let b = c .before .before in
-    (omega arith, filled-none _ _ _ (b .args .t5) (b .pre .0))
+-- both promises from the first
+promised : (own : Tmesh) (r : Generated × LentArrays) → r ≡ lendOf millionth own → (r ≡ lendOf millionth own) × (outcomeTold (r .0 .outcome) ≡ lendTable millionth own)
+promised own r = beside (λ (x : Generated × LentArrays). outcomeTold (x .0 .outcome)) (lendOf millionth own) (lendTable millionth own) (lend-told millionth own) r
 
-mul-lend-point : tie.Need-mul-lend-point Inv-loop μ-loop
-mul-lend-point c = search needs
-
-element-copy-out-lend-point : tie.Need-element-copy-out-lend-point Inv-loop μ-loop
-element-copy-out-lend-point c = search needs
-
-mul-lend-point-2 : tie.Need-mul-lend-point-2 Inv-loop μ-loop
-mul-lend-point-2 c = search needs
-
-array-copy-out-lend-point : tie.Need-array-copy-out-lend-point Inv-loop μ-loop
-array-copy-out-lend-point c = search needs
-
-lend-point-requires : tie.Need-lend-point-requires Inv-loop μ-loop
-lend-point-requires c κs = search needs
-
-add-n : tie.Need-add-n Inv-loop μ-loop
-add-n c = search needs
-
-loop-less : tie.Need-loop-less Inv-loop μ-loop
-loop-less c = search needs
-
-loop-again : tie.Need-loop-again Inv-loop μ-loop
-loop-again c =
-    let l = c .before .before .before .before .before .before .before in
-    let k = l .loop in
-    let e = c .lend-point .ensures in (
-      omega arith,
-      filled-more (k .n) (k .across) (k .upwards) (k .positions) (l .before .before .before .args .t5) (omega arith) (k .inv .1) _ _ _ (e .0) (e .1 .0) (e .1 .1),
-    )
-
-returns : tie.Need-returns Inv-loop μ-loop
+returns : tie.Need-returns
 returns c =
-    let l = c .before in
-    let m = l .before .before .before .args .t5 in
-    let k = l .loop in
-    let h : k .n ≡ 128 = omega arith in
-    ((k .inv .1 .full, room (l .before .before .before)), filled-holds (k .n) (k .across) (k .upwards) (k .positions) m h (k .inv .1))
+    let k = c .before .before in
+    let own = k .before .before .before .before .before .before .args .map in
+    let l = k .before .lend-none .last in
+    promised own _
+    (lend-refused millionth own (k .with-knots .result) (lent (l .0) (l .1 .0) (l .1 .1 .0) (l .1 .1 .1 .0)) (k .with-knots .ensures) _ (c .enum-told .given .1) (k .before .lend-none .ensures))
+
+enum-told-2 : tie.Need-enum-told-2
+enum-told-2 c = search needs
+
+lend-all-requires : tie.Need-lend-all-requires
+lend-all-requires c κs = none-full _ (c .before .before .before .before .before .before .before .lend-none .ensures)
+
+returns-2 : tie.Need-returns-2
+returns-2 c =
+    let k = c .before .before .before .before .before .before .before in
+    let own = k .before .before .before .before .before .before .args .map in
+    let l = c .lend-all .last in
+    promised own _
+    (lend-done millionth own (k .with-knots .result) (lent (l .0) (l .1 .0) (l .1 .1 .0) (l .1 .1 .1 .0)) (k .with-knots .ensures) (c .before .before .before .before .before .enum-told2 .given .1) (c .lend-all .ensures))
 
 pub lend-spec : {M : Type 1} → statement M
-lend-spec =
-    tie.close
-    (tie.spec
-    Inv-loop
-    μ-loop
-    loop-holds
-    mul-lend-point
-    element-copy-out-lend-point
-    mul-lend-point-2
-    array-copy-out-lend-point
-    lend-point-requires
-    add-n
-    loop-less
-    loop-again
-    returns)
+lend-spec = tie.close (tie.spec lend-none-requires with-knots-requires enum-told returns enum-told-2 lend-all-requires returns-2)

@@ -1,16 +1,18 @@
--- `lent_value` meets its contract: at each turn the four sums of each map that the arrays hold stand at n.
+-- `lent_value` meets its contract: at each turn the four sums of the map that the arrays hold stand at n.
 use Prim.Native.Nat.{_≤_, _<_, _-_}
 use mathlib.Core.Path.{_≡_}
 use mathlib.Core.Logic.{⊎-elim}
 use native.Mathlib.Omega.{arith}
 use borrow.Author.Needs.{needs}
 use denote.Ref.{now}
-use Rattle.lent_surface.specs.LentLaws.{LentSums, lent-start, lent-end, lent-added, lent-passed}
+use Rattle.surface.specs.EvaluationLaws.{Sums, sums-start, sums-end, sums-added, sums-passed}
+use Rattle.lent_surface.specs.Lent.{heldMap}
+use Rattle.lent_surface.specs.LentLaws.{held-share}
 use Rattle.lent_surface.proofs.lent_value.Statement.{statement}
 use Rattle.lent_surface.proofs.lent_value.Tie as tie
 
 abbrev Inv-loop : tie.InvT-loop
-Inv-loop across upwards positions listed s t x₀ y₀ z₀ weight₀ n₀ x y z weight n = (n ≤ 128) × LentSums across upwards positions listed s t n x y z weight
+Inv-loop across upwards positions listed s t x₀ y₀ z₀ weight₀ n₀ x y z weight n = (n ≤ 128) × Sums (heldMap across upwards positions listed) s t n x y z weight
 
 abbrev μ-loop : tie.MeasureT-loop
 μ-loop across upwards positions listed s t x₀ y₀ z₀ weight₀ n₀ x y z weight n = 128 - n
@@ -18,7 +20,7 @@ abbrev μ-loop : tie.MeasureT-loop
 loop-holds : tie.Need-loop-holds Inv-loop μ-loop
 loop-holds c =
     let a = c .args in
-    (omega arith, lent-start (now (a .across)) (now (a .upwards)) (now (a .positions)) (now (a .listed)) (a .s) (a .t))
+    (omega arith, sums-start (heldMap (now (a .across)) (now (a .upwards)) (now (a .positions)) (now (a .listed))) (a .s) (a .t))
 
 element-copy-out-if1 : tie.Need-element-copy-out-if1 Inv-loop μ-loop
 element-copy-out-if1 c = search needs
@@ -36,18 +38,19 @@ loop-again : tie.Need-loop-again Inv-loop μ-loop
 loop-again c =
     let l = c .before .before .before in
     let a = l .before .args in
+    let m = heldMap (now (a .across)) (now (a .upwards)) (now (a .positions)) (now (a .listed)) in
     let k = l .loop in
     let o = c .if1 in
     let h : k .n < 128 = omega arith in (
       omega arith,
       ⊎-elim
           (λ w.
-          lent-added (now (a .across)) (now (a .upwards)) (now (a .positions)) (now (a .listed)) (a .s) (a .t)
-          (k .n) (k .x) (k .y) (k .z) (k .weight) (o .x) (o .y) (o .z) (o .weight) h (k .inv .1)
-          (w .1 .result) (w .0 .taken) (w .1 .ensures) (w .6) (w .7) (w .8) (w .9))
+          sums-added m (a .s) (a .t) (k .n) (k .x) (k .y) (k .z) (k .weight) (o .x) (o .y) (o .z) (o .weight) h (k .inv .1)
+          (w .1 .result) (w .0 .taken)
+          (held-share (now (a .across)) (now (a .upwards)) (now (a .positions)) (now (a .listed)) (k .n) h (a .s) (a .t) (w .1 .result) (w .1 .ensures))
+          (w .6) (w .7) (w .8) (w .9))
           (λ w.
-          lent-passed (now (a .across)) (now (a .upwards)) (now (a .positions)) (now (a .listed)) (a .s) (a .t)
-          (k .n) (k .x) (k .y) (k .z) (k .weight) (o .x) (o .y) (o .z) (o .weight) h (k .inv .1)
+          sums-passed m (a .s) (a .t) (k .n) (k .x) (k .y) (k .z) (k .weight) (o .x) (o .y) (o .z) (o .weight) h (k .inv .1)
           (w .0 .left) (w .1) (w .2) (w .3) (w .4))
           (o .came),
     )
@@ -58,7 +61,7 @@ returns c =
     let a = l .before .args in
     let k = l .loop in
     let h : k .n ≡ 128 = omega arith in
-    lent-end (now (a .across)) (now (a .upwards)) (now (a .positions)) (now (a .listed)) (a .s) (a .t)
+    sums-end (heldMap (now (a .across)) (now (a .upwards)) (now (a .positions)) (now (a .listed))) (a .s) (a .t)
     (k .n) (k .x) (k .y) (k .z) (k .weight) h (k .inv .1)
 
 pub lent-value-spec : {M : Type 1} → statement M

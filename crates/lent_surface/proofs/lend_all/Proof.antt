@@ -1,0 +1,92 @@
+-- `lend_all` meets its contract: the points below n stand in the arrays, and the listing is stored whole.
+use Prim.Native.Nat.{_≤_, _-_}
+use mathlib.Core.Path.{_≡_, sym, _∙_}
+use native.Mathlib.Omega.{arith}
+use borrow.Author.Needs.{needs}
+use lib.ListN.{length-map}
+use Rattle.ray.specs.declared.knots.PointKnots.{PointKnots}
+use Rattle.surface.specs.Evaluation.{noKnots, noPosition}
+use Rattle.lent_surface.specs.Lent.{inTurn}
+use Rattle.lent_surface.specs.LentLaws.{StoredTo, stored-none, stored-more, all-lent}
+use Rattle.lent_surface.proofs.lend_all.Statement.{statement}
+use Rattle.lent_surface.proofs.lend_all.Tie as tie
+
+abbrev Inv-loop : tie.InvT-loop
+Inv-loop across₀ upwards₀ positions₀ listed map places n₀ across upwards positions n =
+    (n ≤ 128)
+    × (StoredTo (λ (k : PointKnots). k .s) noKnots (map .knots) n across
+    × (StoredTo (λ (k : PointKnots). k .t) noKnots (map .knots) n upwards × StoredTo inTurn noPosition (map .mesh .positions) n positions))
+
+abbrev μ-loop : tie.MeasureT-loop
+μ-loop across₀ upwards₀ positions₀ listed map places n₀ across upwards positions n = 128 - n
+
+loop-holds : tie.Need-loop-holds Inv-loop μ-loop
+loop-holds c =
+    let full = c .before .before .pre in
+    (omega arith, (stored-none _ _ _ _ (full .0), (stored-none _ _ _ _ (full .1 .0), stored-none _ _ _ _ (full .1 .1))))
+
+mul-lend-point : tie.Need-mul-lend-point Inv-loop μ-loop
+mul-lend-point c = search needs
+
+element-copy-out-lend-point : tie.Need-element-copy-out-lend-point Inv-loop μ-loop
+element-copy-out-lend-point c = search needs
+
+mul-lend-point-2 : tie.Need-mul-lend-point-2 Inv-loop μ-loop
+mul-lend-point-2 c = search needs
+
+array-copy-out-lend-point : tie.Need-array-copy-out-lend-point Inv-loop μ-loop
+array-copy-out-lend-point c = search needs
+
+lend-point-requires : tie.Need-lend-point-requires Inv-loop μ-loop
+lend-point-requires c κs = search needs
+
+add-n : tie.Need-add-n Inv-loop μ-loop
+add-n c = search needs
+
+loop-less : tie.Need-loop-less Inv-loop μ-loop
+loop-less c = search needs
+
+loop-again : tie.Need-loop-again Inv-loop μ-loop
+loop-again c =
+    let l = c .before .before .before .before .before .before .before in
+    let k = l .loop in
+    let map = l .before .before .before .args .t5 in
+    let e = c .lend-point .ensures in (
+      omega arith,
+      (
+        stored-more (λ (x : PointKnots). x .s) noKnots (map .knots) (k .n) (k .across) _ (omega arith) (e .0) (k .inv .1 .0),
+        (
+          stored-more (λ (x : PointKnots). x .t) noKnots (map .knots) (k .n) (k .upwards) _ (omega arith) (e .1 .0) (k .inv .1 .1 .0),
+          stored-more inTurn noPosition (map .mesh .positions) (k .n) (k .positions) _ (omega arith) (e .1 .1) (k .inv .1 .1 .1),
+        ),
+      ),
+    )
+
+returns : tie.Need-returns Inv-loop μ-loop
+returns c =
+    let l = c .before in
+    let own = l .before .before .before .args .t5 in
+    let g = l .before .before .before .good .1 .1 .1 .1 .0 in
+    let k = l .loop in
+    let h : k .n ≡ 128 = omega arith in
+    all-lent own (k .n) (k .across) (k .upwards) (k .positions) h
+    (sym (length-map (own .knots) _) ∙ g .1 .1 .1 .1 .0 .1 .0 .1)
+    (sym (length-map (own .mesh .positions) _) ∙ g .1 .1 .0 .1 .1 .1 .1 .0 .1 .0 .1)
+    (k .inv .1 .0) (k .inv .1 .1 .0) (k .inv .1 .1 .1)
+
+pub lend-all-spec : {M : Type 1} → statement M
+lend-all-spec =
+    tie.close
+    (tie.spec
+    Inv-loop
+    μ-loop
+    loop-holds
+    mul-lend-point
+    element-copy-out-lend-point
+    mul-lend-point-2
+    array-copy-out-lend-point
+    lend-point-requires
+    add-n
+    loop-less
+    loop-again
+    returns)
