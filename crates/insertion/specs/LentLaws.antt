@@ -18,8 +18,8 @@ use Rattle.control_point.specs.declared.refusal.Refusal.{Refusal}
 use Rattle.control_point.specs.declared.t_mesh_control_point.Side.the-variants.{Border, Opening}
 use Rattle.control_point.specs.declared.t_mesh_control_point.TmeshControlPoint.{TmeshControlPoint}
 use Rattle.control_point.specs.declared.t_mesh_direction.TmeshDirection.{TmeshDirection}
-use Rattle.lent_points.specs.Lent.{Points, pointsWithSide, pointsFrom, Held}
-use Rattle.lent_points.specs.LentLaws.{held-new, held-side, held-linked, held-agree}
+use Rattle.lent_points.specs.Lent.{Points, pointsWithSide, pointsFrom, Held, heldStore}
+use Rattle.lent_points.specs.LentLaws.{held-new, held-side, held-linked, held-agree, held-store}
 use Rattle.search.specs.SearchLaws.{found-agrees}
 use Rattle.store.specs.Store.{storeSides, withSideAt, linked}
 use Rattle.store.specs.declared.store.Changed.{Changed}
@@ -31,6 +31,7 @@ use Rattle.insertion.specs.declared.insertion.NewSide.{NewSide}
 use Rattle.insertion.specs.declared.insertion.NewSide.the-variants.{Takes, Joins, Opens, Tears, Stays}
 use Rattle.insertion.specs.declared.insertion.Checked.{Checked}
 use Rattle.insertion.specs.declared.insertion.Checked.the-variants.{Passed, Refused as NotPassed}
+use Rattle.insertion.specs.declared.insertion.InsertAnswer.{InsertAnswer}
 use Rattle.insertion.specs.declared.insertion.InsertAnswer.the-variants.{Refused}
 use Rattle.insertion.specs.declared.insertion.Inserted.{Inserted}
 
@@ -199,3 +200,9 @@ inserted-made e store room listed con d ratio stands = by-checks (checkedCall e 
               ∙ sided-made e (placed store con other d interval ratio) (room-placed store room (w .roomy) con other (w .con-made) (w .other-made) d interval ratio) con (store .made) (w .roomy) d
               ∙ ap (λ (s : Store). s .made) same,
         )
+
+-- ---- a store is always held: the answer is that of one store's insertion, and the points after it are those of that store after it
+pub inserts-held : (e : Float) (points : Points) (made : ℕ) (listed : Bool) (con : ℕ) (d : TmeshDirection) (ratio : Float) (answer : InsertAnswer) (after : Points) (rest : List TmeshControlPoint)
+    → length rest ≡ 128 → Inserts e points made listed con d ratio answer after
+    → (answer ≡ insertPoint e (heldStore points rest made) listed con d ratio .answer) × Held after rest (insertPoint e (heldStore points rest made) listed con d ratio .store)
+inserts-held e points made listed con d ratio answer after rest room inserts = inserts rest (heldStore points rest made) (held-store points rest made room) refl

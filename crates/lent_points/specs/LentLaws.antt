@@ -1,5 +1,5 @@
 -- Laws of lent points: what the arrays hold after a store to them, and that they hold the points of a store through each change of it.
-use Prim.Native.Nat.{ℕ, _<_, _≤_, _+_, _*_}
+use Prim.Native.Nat.{ℕ, zero, suc, _<_, _≤_, _+_, _*_}
 use mathlib.Core.Path.{_≡_, refl, sym, ap, _∙_, subst}
 use mathlib.Core.Bool.{Bool, true, false, cond, _&&_}
 use mathlib.Core.List.{List}
@@ -22,7 +22,7 @@ use Rattle.control_point.specs.declared.t_mesh_direction.TmeshDirection.the-var
 use Rattle.store.specs.Store.{storeSides, storePoint, withPoint, withSideAt, withNew, linked, coordinated}
 use Rattle.store.specs.StoreLaws.{side-read}
 use Rattle.store.specs.declared.store.Store.{Store}
-use Rattle.lent_points.specs.Lent.{Points, pointsWith, pointsWithSide, pointsLinked, acrossAt, upwardsAt, coordinatesWith, pointsFrom, lentPoints, Held}
+use Rattle.lent_points.specs.Lent.{Points, pointsWith, pointsWithSide, pointsLinked, acrossAt, upwardsAt, coordinatesWith, pointsFrom, lentPoints, Held, Packs, madeOver, putOver, heldStore}
 
 -- ---- the coordinates after a store
 module _ (coordinates : List Float) (full : length coordinates ≡ 256) (n : ℕ) (h : n < 128) (s t : Float) where
@@ -298,3 +298,29 @@ held-packed points rest list store count few room held made within p =
       where
         not-less : (n < count → ⊥) → count ≤ n
         not-less f = omega (arith, f)
+
+-- ---- a store is always held: what is promised of every store that is, is promised of one
+put-over : (points : Points) (rest : List TmeshControlPoint) (count : ℕ) → count ≤ length rest → PackedTo count points rest (putOver points count rest)
+unfolding putOver
+put-over points rest zero h = packed-none points rest
+put-over points rest (suc count) h =
+    subst (λ (n : ℕ). PackedTo n points rest (set (putOver points count rest) count (points count))) (omega arith)
+    (packed-more count points rest (putOver points count rest) (omega (arith, h)) (put-over points rest count (omega (arith, h))))
+
+pub held-store : (points : Points) (rest : List TmeshControlPoint) (made : ℕ) → length rest ≡ 128 → Held points rest (heldStore points rest made)
+held-store points rest made room =
+    record { room = all .same-length ∙ room; held = λ n h. all .packed n (isMade-room made n h) ∙ by-made n true h; beyond = λ n h. not-made n (ltb n 128) refl h }
+  where
+    all : PackedTo 128 (madeOver points rest made) rest (putOver (madeOver points rest made) 128 rest)
+    all = put-over (madeOver points rest made) rest 128 (omega (arith, room))
+
+    by-made : (n : ℕ) (b : Bool) → isMade made n ≡ b → madeOver points rest made n ≡ cond b (points n) (pointAt rest n)
+    by-made n b h = ap (λ (x : Bool). cond x (points n) (pointAt rest n)) h
+
+    not-made : (n : ℕ) (b : Bool) → ltb n 128 ≡ b → isMade made n ≡ false → storePoint (heldStore points rest made) n ≡ pointAt rest n
+    not-made n true x h = all .packed n (ltb-true n 128 x) ∙ by-made n false h
+    not-made n false x h = all .left n (ltb-false n 128 x)
+
+-- so the points packed are those of that store
+pub packs-held : (points : Points) (rest list : List TmeshControlPoint) (made : ℕ) → length rest ≡ 128 → Packs points rest made list → list ≡ heldStore points rest made .points
+packs-held points rest list made room packs = packs (heldStore points rest made .points) (held-store points rest made room)
