@@ -46,13 +46,17 @@ EvaluationInUnit axis event =
     → T (lt (value .weight) (inf false))
     → InUnit (onAxis axis value)
 
+-- the premises, of a closeness, a border weight, four corners, an axis and a list of calls on the map made from them
+pub record Premises (e w : Float) (bottomLeft bottomRight topRight topLeft : Position) (axis : Axis) (calls : List Call) : Type 0 where
+  pub border : T (le 0f w)
+  pub bottom-left : InUnit (coordinate axis bottomLeft)
+  pub bottom-right : InUnit (coordinate axis bottomRight)
+  pub top-right : InUnit (coordinate axis topRight)
+  pub top-left : InUnit (coordinate axis topLeft)
+  pub done : Each (DoneInUnit axis) (runOf e (newTmesh w bottomLeft bottomRight topRight topLeft) calls)
+
 abbrev pub NeverPastFullStroke : Type 0
 NeverPastFullStroke =
-    (e w : Float) (bottomLeft bottomRight topRight topLeft : Position) (calls : List Call) (axis : Axis)
-    → T (le 0f w)
-    → InUnit (coordinate axis bottomLeft)
-    → InUnit (coordinate axis bottomRight)
-    → InUnit (coordinate axis topRight)
-    → InUnit (coordinate axis topLeft)
-    → Each (DoneInUnit axis) (runOf e (newTmesh w bottomLeft bottomRight topRight topLeft) calls)
+    (e w : Float) (bottomLeft bottomRight topRight topLeft : Position) (axis : Axis) (calls : List Call)
+    → Premises e w bottomLeft bottomRight topRight topLeft axis calls
     → Each (EvaluationInUnit axis) (runOf e (newTmesh w bottomLeft bottomRight topRight topLeft) calls)

@@ -26,6 +26,12 @@ module _ (axis : Axis) (e : Float) where
       ((λ value equal. subst (AnswerInUnit axis) equal (evaluated .0)), run-in-unit rest (mapAfter e map (evaluation s t)) (evaluated .1) (h .1))
 
 pub never-past-full-stroke : NeverPastFullStroke
-never-past-full-stroke e w bottomLeft bottomRight topRight topLeft calls axis border first second third fourth =
+never-past-full-stroke e w bottomLeft bottomRight topRight topLeft axis calls premises =
     run-in-unit axis e calls (newTmesh w bottomLeft bottomRight topRight topLeft)
-    (new-sound axis w bottomLeft bottomRight topRight topLeft (nonneg→nonnegOrNan w (le→nonneg w border)) first second third fourth)
+    (new-sound axis w bottomLeft bottomRight topRight topLeft
+    (nonneg→nonnegOrNan w (le→nonneg w (premises .border)))
+    (premises .bottom-left)
+    (premises .bottom-right)
+    (premises .top-right)
+    (premises .top-left))
+    (premises .done)

@@ -5,33 +5,23 @@ use mathlib.Core.Path.{_≡_}
 use mathlib.Core.Bool.{false}
 use mathlib.Core.List.{List, [], _∷_}
 use lib.Dec.{T}
-use lib.Ieee.{inf, binary64, ofBits, lt, le}
+use lib.Ieee.{inf, binary64, ofBits, lt}
 use Rattle.float64.specs.Literals.{zeroLiteral, oneLiteral}
 use Rattle.float64.specs.Sign.{0f}
 use Rattle.control_point.specs.Small.{millionth}
-use Rattle.control_point.specs.declared.refusal.Refusal.the-variants.{BorderSide}
 use Rattle.control_point.specs.declared.t_mesh_control_point.Side.the-variants.{Link}
 use Rattle.control_point.specs.declared.t_mesh_direction.TmeshDirection.the-variants.{Right}
 use Rattle.store.specs.Store.{storeSides}
 use Rattle.insertion.specs.declared.insertion.InsertAnswer.the-variants.{Done, Torn}
-use Rattle.t_mesh.specs.Tmesh.{Axis, X, coordinate, storeOf, isListed, newTmesh}
+use Rattle.t_mesh.specs.Tmesh.{Axis, X, storeOf, isListed, newTmesh}
 use Rattle.t_mesh.specs.declared.t_mesh.Position.{Position}
 use Rattle.t_mesh.specs.declared.t_mesh.Tmesh.{Tmesh}
 use Rattle.surface.specs.Evaluation.{onAxis, positionOf}
 use Rattle.surface.specs.declared.evaluation.Evaluation.{Evaluation}
 use Rattle.surface.specs.declared.evaluation.EvaluationAnswer.the-variants.{Is}
 use Rattle.calls.specs.Calls.{Call, insertion, evaluation, inserted, evaluated, mapAfter, runOf}
-use Rattle.calls.specs.FullStroke.{InUnit, Each, DoneInUnit}
+use Rattle.calls.specs.FullStroke.{InUnit, Premises}
 use Rattle.calls.specs.ExampleValues.{half, seven, positionAt}
-
--- the theorem's premises on an axis, of a list of calls on the map of border 1.0 and four corners
-pub record Premises (axis : Axis) (bottomLeft bottomRight topRight topLeft : Position) (calls : List Call) : Type 0 where
-  pub border : T (le 0f oneLiteral)
-  pub bottom-left : InUnit (coordinate axis bottomLeft)
-  pub bottom-right : InUnit (coordinate axis bottomRight)
-  pub top-right : InUnit (coordinate axis topRight)
-  pub top-left : InUnit (coordinate axis topLeft)
-  pub done : Each (DoneInUnit axis) (runOf millionth (newTmesh oneLiteral bottomLeft bottomRight topRight topLeft) calls)
 
 -- the weight of a value is positive and finite
 abbrev pub Weighty : Evaluation → Type 0
@@ -68,7 +58,7 @@ FullRun =
 
 -- the premises hold, and the evaluation is exactly 1.0 with a positive and finite weight
 pub record FullStrokeTouched : Type 0 where
-  pub premises : Premises X lower lower upper upper fullCalls
+  pub premises : Premises millionth oneLiteral lower lower upper upper X fullCalls
   pub run : FullRun
   pub weighty : Weighty full
 
@@ -126,7 +116,7 @@ TornStands =
 
 -- the premises hold on every axis, the torn point stands in the mesh, and the evaluation lies in 0 to 1
 pub record TornPointPassedOver : Type 0 where
-  pub premises : (axis : Axis) → Premises axis bottomLeft bottomRight topRight topLeft tornCalls
+  pub premises : (axis : Axis) → Premises millionth oneLiteral bottomLeft bottomRight topRight topLeft axis tornCalls
   pub run : TornRun
   pub stands : TornStands
   pub weighty : Weighty inside

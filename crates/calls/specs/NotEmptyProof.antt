@@ -1,6 +1,5 @@
 -- Both lists of NotEmpty, by computing: every call of them runs on closed values.
-use mathlib.Core.Path.{_≡_, refl, sym, subst}
-use mathlib.Core.List.{[], _∷_}
+use mathlib.Core.Path.{refl, sym, subst}
 use lib.Ieee.{Float, ofBits, ofFields, add, sub, mul, div, sum, round, units, odd, size, span, climb, neg, le, lt, eq}
 use Rattle.float64.specs.Literals.{zeroLiteral, oneLiteral}
 use Rattle.basis.specs.Formula.{sumOfTerms, formula}
@@ -9,8 +8,6 @@ use Rattle.control_point.specs.Point.{isMade}
 use Rattle.control_point.specs.Sides.{sidesOf}
 use Rattle.control_point.specs.Small.{millionth, small}
 use Rattle.navigation.specs.Walk.{onward, walkOf}
-use Rattle.control_point.specs.declared.refusal.Refusal.the-variants.{BorderSide}
-use Rattle.control_point.specs.declared.t_mesh_direction.TmeshDirection.the-variants.{Right}
 use Rattle.search.specs.Search.{judgeAt, seekFrom, findInferredConnection}
 use Rattle.store.specs.Store.{connectPoints}
 use Rattle.insertion.specs.Insert.{inUnit, checked, checkedIntervals, placed, newSide, firstSide, withFirst, secondSide, sided, insertPoint}
@@ -22,10 +19,9 @@ use Rattle.t_mesh.specs.Tmesh.{Axis, X, Y, Z, coordinate, newTmesh}
 use Rattle.t_mesh.specs.Insertion.{addControlPoint}
 use Rattle.knot_vectors.specs.Knots.{rowsFrom, allKnots, generateKnotVectors}
 use Rattle.surface.specs.Evaluation.{onAxis, sumFrom, valueOf, withKnots, subsOf}
-use Rattle.surface.specs.declared.evaluation.EvaluationAnswer.the-variants.{Is}
 use Rattle.calls.specs.Calls.{Call, insertion, evaluation, Answer, inserted, evaluated, Event, runOf}
 use Rattle.calls.specs.FullStroke.{InUnit, Each, DoneInUnit}
-use Rattle.calls.specs.ExampleValues.{half, positionAt}
+use Rattle.calls.specs.ExampleValues.{positionAt}
 use Rattle.calls.specs.NotEmpty.{FullRun, FullStrokeTouched, inside, TornRun, TornStands, TornPointPassedOver, NotEmpty}
 
 -- ---- the premises on done insertions, of single events

@@ -1,19 +1,16 @@
 -- The starred plate readings of document 01, on a map with border 1.0 and any four corners, at its closeness of a millionth. No reading
 -- looks at a position, so those of the corners and of the points inserted are any.
-use Prim.Native.Nat.{ℕ, zero, suc, _+_}
+use Prim.Native.Nat.{ℕ}
 use mathlib.Core.Path.{_≡_}
-use mathlib.Core.Bool.{Bool, cond}
 use mathlib.Core.List.{List, [], _∷_}
 use lib.Ieee.{Float, binary64, ofBits}
 use Rattle.float64.specs.Literals.{zeroLiteral, oneLiteral}
 use Rattle.basis.specs.Binary64.{binary64Arithmetic, knots}
 use Rattle.basis.specs.Formula.{formula}
-use Rattle.control_point.specs.Point.{isLink, minusOne}
-use Rattle.control_point.specs.Sides.{Sides}
+use Rattle.control_point.specs.Point.{minusOne}
 use Rattle.control_point.specs.Small.{millionth}
 use Rattle.navigation.specs.Walk.{walkNumber}
 use Rattle.control_point.specs.declared.refusal.Outcome.the-variants.{Done as Built}
-use Rattle.control_point.specs.declared.refusal.Refusal.the-variants.{BorderSide}
 use Rattle.control_point.specs.declared.t_mesh_control_point.Side.the-variants.{Link}
 use Rattle.control_point.specs.declared.t_mesh_direction.TmeshDirection.{TmeshDirection}
 use Rattle.control_point.specs.declared.t_mesh_direction.TmeshDirection.the-variants.{Up, Right, Down, Left}
@@ -29,6 +26,7 @@ use Rattle.t_mesh.specs.Insertion.{addControlPoint}
 use Rattle.t_mesh.specs.declared.t_mesh.Position.{Position}
 use Rattle.t_mesh.specs.declared.t_mesh.Tmesh.{Tmesh}
 use Rattle.t_mesh.specs.declared.add.Added.{Added}
+use Rattle.census.specs.Census.{countsOf}
 use Rattle.calls.specs.ExampleValues.{half, two}
 
 -- 0.46875
@@ -38,21 +36,6 @@ fifteenThirtySeconds = ofBits binary64 0x3fde_0000_0000_0000
 -- knots that are the same in s and t
 abbrev pub alike : List Float → KnotsAnswer
 alike five = record { outcome = Built; knots = record { s = five; t = five } }
-
--- ---- counts
--- how many entries of a list are true
-abbrev pub countTrue : List Bool → ℕ
-countTrue [] = 0
-countTrue (b ∷ rest) = cond b 1 0 + countTrue rest
-
--- the Up and the Right link sides of the points below a number
-abbrev pub linksBelow : Sides → ℕ → ℕ
-linksBelow sides zero = 0
-linksBelow sides (suc n) = linksBelow sides n + (cond (isLink (sides n Up)) 1 0 + cond (isLink (sides n Right)) 1 0)
-
--- the two-way links of a map, each counted at its lower or its left end
-abbrev pub linkCount : Tmesh → ℕ
-linkCount map = linksBelow (storeSides (storeOf map)) (storeOf map .made)
 
 -- ---- the two loose points of the last reading
 -- a point's right and left sides opened
@@ -103,15 +86,15 @@ module _ (bottomLeft bottomRight topRight topLeft position : Position) where
     pub ratio-one : inserted plate 0 Right oneLiteral .answer ≡ Done 1 0
     -- ratio 0.0 from 0 Right: torn, opened 1, made 5, listed 4
     pub ratio-zero : torn .answer ≡ Torn 1 0
-    pub ratio-zero-made : storeOf (torn .map) .made ≡ 5
-    pub ratio-zero-listed : countTrue (torn .map .mesh .listed) ≡ 4
+    pub ratio-zero-made : countsOf (torn .map) .made ≡ 5
+    pub ratio-zero-listed : countsOf (torn .map) .listed ≡ 4
     -- a next insertion from 4, in any direction: 2
     pub from-torn : (d : TmeshDirection) → answerNumber (inserted (torn .map) 4 d half .answer) ≡ 2
     -- 0.5 from 0 Right, then from 3 Right: the second infers 5 to 4 at 1.0; 7 links
     pub second-infers : afterBoth .answer ≡ Done 1 1
     pub five-to-four : storeSides (storeOf (afterBoth .map)) 5 Down ≡ Link 4 oneLiteral
     pub four-to-five : storeSides (storeOf (afterBoth .map)) 4 Up ≡ Link 5 oneLiteral
-    pub seven-links : linkCount (afterBoth .map) ≡ 7
+    pub seven-links : countsOf (afterBoth .map) .links ≡ 7
     -- after the first alone, point 4's ray Up, length 2: 1.0, 1.0, whatever stood in the buffer
     pub ray-up : (x y : Float)
         → castRay millionth (storeOf (afterFirst .map)) 4 Up (x ∷ (y ∷ [])) ≡ (Built, oneLiteral ∷ (oneLiteral ∷ []))

@@ -15,12 +15,13 @@ use Rattle.ray.specs.Ray.{rayFrom, rayOf}
 use Rattle.ray.specs.Knots.{knotsAt, pointKnotVectors}
 use Rattle.t_mesh.specs.Tmesh.{newTmesh}
 use Rattle.t_mesh.specs.Insertion.{addControlPoint}
+use Rattle.census.specs.Census.{countBelow, countsOf}
 use Rattle.calls.specs.Readings.{PlateReadings}
 
 pub plate-readings : PlateReadings
 unfolding newTmesh addControlPoint insertPoint inUnit checked checkedIntervals placed newSide firstSide withFirst secondSide sided
     emptyStore makeLoose removeEdgeCondition connectPoints connectable isMade sidesOf millionth small findInferredConnection seekFrom judgeAt
-    walkOf onward pointKnotVectors knotsAt rayOf rayFrom approachOf approachIn formula sumOfTerms
+    walkOf onward pointKnotVectors knotsAt rayOf rayFrom approachOf approachIn formula sumOfTerms countsOf countBelow
     le lt eq ofBits ofFields add sub mul div sum round units odd size span climb neg
 plate-readings bottomLeft bottomRight topRight topLeft position =
     record {

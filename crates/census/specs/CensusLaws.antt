@@ -41,7 +41,7 @@ unfolding countBelow
 count-few zero test = lit≤ tt
 count-few (suc n) test = omega (arith, count-few n test, one-few (test n))
 
-count-same : (n : ℕ) (f g : ℕ → Bool) → ((i : ℕ) → i < n → f i ≡ g i) → countBelow n f ≡ countBelow n g
+pub count-same : (n : ℕ) (f g : ℕ → Bool) → ((i : ℕ) → i < n → f i ≡ g i) → countBelow n f ≡ countBelow n g
 unfolding countBelow
 count-same zero f g h = refl
 count-same (suc n) f g h = rw (count-same n f g (λ (i : ℕ) (l : i < n). h i (omega arith)), h n (omega arith))

@@ -1,2 +1,3 @@
 pub mod Census
 pub mod CensusLaws
+pub mod PairLaws
