@@ -11,16 +11,12 @@ use Rattle.control_point.specs.declared.refusal.Refusal.{Refusal}
 use Rattle.surface.specs.Evaluation.{subsOf}
 use Rattle.surface.specs.declared.evaluation.EvaluationAnswer.the-variants.{Refused as NoValue}
 use Rattle.mirror.specs.BoolLaws.{or-case}
-use Rattle.store.specs.Store.{storeSides}
-use Rattle.t_mesh.specs.Tmesh.{storeOf, newTmesh}
+use Rattle.t_mesh.specs.Tmesh.{newTmesh}
 use Rattle.t_mesh.specs.declared.t_mesh.Tmesh.{Tmesh}
 use Rattle.soundness.specs.MapCalls.{MapCall, afterCall, mapAfterAll}
 use Rattle.soundness.specs.FreshLaws.{sound-fresh}
-use Rattle.soundness.specs.InsertionLaws.{KnownAnswer}
-use Rattle.soundness.specs.KnownLaws.{MetOutcome, KnownWalk, known-walk}
-use Rattle.soundness.specs.KnownRayLaws.{KnownRay, known-ray, known-knots}
-use Rattle.soundness.specs.MapLaws.{SoundMesh, KnownEvaluation, insertion-known, insertion-seeks, insertion-places, generation-known, evaluation-known, sound-call, listing-call}
-use Rattle.soundness.specs.Theorems.{EveryMap, OneOf, EveryMapMirrored, ListedIsMade, ListingGrows, PlacingConnects, MeetsPoints, NoPointNever, EvaluationRefusals}
+use Rattle.soundness.specs.MapLaws.{SoundMesh, KnownEvaluation, insertion-places, evaluation-known, sound-call, listing-call}
+use Rattle.soundness.specs.Theorems.{EveryMap, OneOf, EveryMapMirrored, ListedIsMade, ListingGrows, PlacingConnects, EvaluationRefusals}
 
 sound-list : (e : Float) (calls : List MapCall) (map : Tmesh) → SoundMesh (map .mesh) → SoundMesh (mapAfterAll e map calls .mesh)
 unfolding mapAfterAll
@@ -28,7 +24,7 @@ sound-list e [] map sound = sound
 sound-list e (call ∷ calls) map sound = sound-list e calls (afterCall e map call) (sound-call map sound e call)
 
 -- what a sound mesh says of its map holds of every map
-of-sound : (Holds : Tmesh → Type 0) → ((map : Tmesh) → SoundMesh (map .mesh) → Holds map) → EveryMap Holds
+pub of-sound : (Holds : Tmesh → Type 0) → ((map : Tmesh) → SoundMesh (map .mesh) → Holds map) → EveryMap Holds
 of-sound Holds says e weight bottomLeft bottomRight topRight topLeft calls =
     says (mapAfterAll e (newTmesh weight bottomLeft bottomRight topRight topLeft) calls)
     (sound-list e calls (newTmesh weight bottomLeft bottomRight topRight topLeft) (sound-fresh weight bottomLeft bottomRight topRight topLeft))
@@ -62,22 +58,3 @@ refused-so map sound e s t refusal is = of-three (refusalNumber refusal) (subst 
 
 pub evaluation-refusals : EvaluationRefusals
 evaluation-refusals = of-sound _ refused-so
-
-meets-points : (map : Tmesh) → SoundMesh (map .mesh) → MeetsPoints map
-meets-points map sound =
-    record {
-      adds = λ e con d ratio position is. true≢false (subst KnownAnswer is (insertion-known map sound e con d ratio position));
-      seeks = λ e con d ratio position passes. insertion-seeks map sound e con d ratio position passes;
-      walks = λ n n-made travel watch is.
-          false≢true (subst (KnownWalk (storeOf map .made)) is
-          (known-walk (storeSides (storeOf map)) (storeOf map .made) (sound .sound .fits) (sound .sound .mirrored) n travel watch n-made));
-      casts = λ n n-made e d length is.
-          false≢true (subst KnownRay is
-          (known-ray e (storeSides (storeOf map)) (storeOf map .made) (sound .sound .fits) (sound .sound .mirrored) d n n-made length));
-      builds = λ n n-made e is. false≢true (subst MetOutcome is (known-knots e (storeOf map) (sound .sound) n n-made));
-      generates = λ e is. false≢true (subst MetOutcome is (generation-known map sound e));
-      evaluates = λ e s t is. false≢true (subst KnownEvaluation is (evaluation-known map sound e s t));
-    }
-
-pub no-point-never : NoPointNever
-no-point-never = of-sound _ meets-points

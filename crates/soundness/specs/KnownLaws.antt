@@ -40,7 +40,7 @@ met-other : (n m : ℕ) → eqb m 11 ≡ false → eqb n m ≡ true → eqb n 11
 met-other n m other same = ap (λ (k : ℕ). eqb k 11) (eqb→eq n m (subst T (sym same) tt)) ∙ other
 
 -- it is not 11
-met-known : (refusal : Refusal) → Met refusal → Known refusal
+pub met-known : (refusal : Refusal) → Met refusal → Known refusal
 met-known refusal met =
     let n = refusalNumber refusal in
     or-case (eqb n 3) (eqb n 4 || eqb n 9) met (met-other n 3 refl) (λ h. or-case (eqb n 4) (eqb n 9) h (met-other n 4 refl) (met-other n 9 refl))

@@ -10,5 +10,9 @@ pub mod DirectLaws
 pub mod MapLaws
 pub mod FreshLaws
 pub mod EveryMapProof
+pub mod DirectCallsOnStoreProof
+pub mod LinkSidesAreTwiceProof
+pub mod NoPointNeverProof
+pub mod RefusedKeepsMapProof
 pub mod OnlyDoneDropsProof
 pub mod RejoinedIsSixProof

@@ -1,24 +1,39 @@
--- A list of calls on one map: insertions and evaluations, buildings of the knots, and direct calls on the map's store, a point made alone among
--- them, in any order, with any arguments, whatever they answer. A direct call leaves the listing, the positions and the kept knots as they are.
-use mathlib.Core.Bool.{Bool, false}
+-- A list of calls on one map: insertions and evaluations, buildings of the knots, the calls on its store that only look at it (the knots of one
+-- point, a ray), and the direct calls on that store, a point made alone among them; in any order, with any arguments, whatever they answer. A
+-- direct call leaves the listing, the positions and the kept knots as they are.
+use Prim.Native.Nat.{ℕ}
+use mathlib.Core.Bool.{Bool, true, false, _&&_}
 use mathlib.Core.List.{List, [], _∷_}
 use lib.Ieee.{Float}
-use Rattle.mirror.specs.Calls.{Call as Direct, callStore}
+use Rattle.control_point.specs.Point.{isMade}
+use Rattle.control_point.specs.Told.{outcomeNumber}
+use Rattle.control_point.specs.declared.t_mesh_direction.TmeshDirection.{TmeshDirection}
+use Rattle.store.specs.declared.store.Store.{Store}
+use Rattle.mirror.specs.Calls.{Call as Direct, make-loose, connect, remove-connection, remove-edge-condition, set-edge-con-weight, set-knot-coordinates, navigate-until-con, read-side, read-point, callStore, callNumber}
+use Rattle.insertion.specs.Insert.{answerNumber}
+use Rattle.ray.specs.Knots.{pointKnotVectors}
+use Rattle.ray.specs.Ray.{castRay}
 use Rattle.t_mesh.specs.Insertion.{isDone}
 use Rattle.t_mesh.specs.Tmesh.{storeOf, withStore}
 use Rattle.t_mesh.specs.declared.t_mesh.Tmesh.{Tmesh}
 use Rattle.knot_vectors.specs.Knots.{generateKnotVectors}
+use Rattle.surface.specs.Evaluation.{evaluationNumber}
 use Rattle.calls.specs.Calls.{Call, Answer, inserted, evaluated, answerTo, mapAfter}
 
+-- an insertion or an evaluation; the building of all knots; the knots of a point; a ray from a point into a buffer; a direct call
 pub data MapCall : Type 0 where
   entry : Call → MapCall
-  build : MapCall
+  generate-knot-vectors : MapCall
+  point-knot-vectors : ℕ → MapCall
+  cast-ray : ℕ → TmeshDirection → List Float → MapCall
   direct : Direct → MapCall
 
 -- the map after a call, with closeness e
 abbrev pub afterCall : Float → Tmesh → MapCall → Tmesh
 afterCall e map (entry call) = mapAfter e map call
-afterCall e map build = generateKnotVectors e map .map
+afterCall e map generate-knot-vectors = generateKnotVectors e map .map
+afterCall e map (point-knot-vectors n) = map
+afterCall e map (cast-ray n d buffer) = map
 afterCall e map (direct call) = withStore map (callStore (storeOf map) call)
 
 -- the map after a list of calls, each on the map that the one before it left
@@ -26,10 +41,28 @@ unfoldable pub mapAfterAll : Float → Tmesh → List MapCall → Tmesh
 mapAfterAll e map [] = map
 mapAfterAll e map (call ∷ rest) = mapAfterAll e (afterCall e map call) rest
 
--- a list of insertions and evaluations alone
+-- a list of insertions and evaluations alone, and one of direct calls alone
 unfoldable pub entries : List Call → List MapCall
 entries [] = []
 entries (call ∷ rest) = entry call ∷ entries rest
+
+unfoldable pub directs : List Direct → List MapCall
+directs [] = []
+directs (call ∷ rest) = direct call ∷ directs rest
+
+-- ---- answers
+-- the number of an answer
+abbrev pub numberOf : Answer → ℕ
+numberOf (inserted answer) = answerNumber answer
+numberOf (evaluated answer) = evaluationNumber answer
+
+-- the number that a call answers
+abbrev pub numberTo : Float → Tmesh → MapCall → ℕ
+numberTo e map (entry call) = numberOf (answerTo e map call)
+numberTo e map generate-knot-vectors = outcomeNumber (generateKnotVectors e map .outcome)
+numberTo e map (point-knot-vectors n) = outcomeNumber (pointKnotVectors e (storeOf map) n .outcome)
+numberTo e map (cast-ray n d buffer) = outcomeNumber (castRay e (storeOf map) n d buffer .0)
+numberTo e map (direct call) = callNumber (storeOf map) call
 
 -- whether an answer is that of an insertion done, and whether a call is such an insertion
 abbrev pub listsPoint : Answer → Bool
@@ -38,5 +71,28 @@ listsPoint (evaluated answer) = false
 
 abbrev pub addsPoint : Float → Tmesh → MapCall → Bool
 addsPoint e map (entry call) = listsPoint (answerTo e map call)
-addsPoint e map build = false
+addsPoint e map generate-knot-vectors = false
+addsPoint e map (point-knot-vectors n) = false
+addsPoint e map (cast-ray n d buffer) = false
 addsPoint e map (direct call) = false
+
+-- ---- the points that a call is given
+-- whether every point that a direct call is given was made
+abbrev pub givenMade : Store → Direct → Bool
+givenMade store (make-loose weight) = true
+givenMade store (connect first other d interval) = isMade (store .made) first && isMade (store .made) other
+givenMade store (remove-connection n d) = isMade (store .made) n
+givenMade store (remove-edge-condition n d) = isMade (store .made) n
+givenMade store (set-edge-con-weight n d weight) = isMade (store .made) n
+givenMade store (set-knot-coordinates n s t) = isMade (store .made) n
+givenMade store (navigate-until-con start travel watch) = isMade (store .made) start
+givenMade store (read-side n d) = isMade (store .made) n
+givenMade store (read-point n) = isMade (store .made) n
+
+-- and whether every point that a call is given was made; an insertion asks before whether its point is listed, so it counts as given none
+abbrev pub pointsMade : Tmesh → MapCall → Bool
+pointsMade map (entry call) = true
+pointsMade map generate-knot-vectors = true
+pointsMade map (point-knot-vectors n) = isMade (storeOf map .made) n
+pointsMade map (cast-ray n d buffer) = isMade (storeOf map .made) n
+pointsMade map (direct call) = givenMade (storeOf map) call

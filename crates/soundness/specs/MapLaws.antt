@@ -35,7 +35,7 @@ use Rattle.knot_vectors.specs.declared.knots.Generated.{Generated}
 use Rattle.calls.specs.Calls.{insertion, evaluation}
 use Rattle.mirror.specs.EveryListMirroredProof.{sound-call as sound-direct}
 use Rattle.soundness.specs.DirectLaws.{call-grows}
-use Rattle.soundness.specs.MapCalls.{MapCall, entry, build, direct, afterCall, addsPoint}
+use Rattle.soundness.specs.MapCalls.{MapCall, entry, generate-knot-vectors, point-knot-vectors, cast-ray, direct, afterCall, addsPoint}
 use Rattle.soundness.specs.InsertionLaws.{KnownAnswer, Grown, Inserts, inserts}
 use Rattle.soundness.specs.KnownLaws.{Met, MetOutcome}
 use Rattle.soundness.specs.KnownRayLaws.{known-knots}
@@ -205,7 +205,9 @@ module _ (map : Tmesh) (mesh-sound : SoundMesh (map .mesh)) where
   pub sound-call : (e : Float) (call : MapCall) → SoundMesh (afterCall e map call .mesh)
   sound-call e (entry (insertion con d ratio position)) = insertion-sound e con d ratio position
   sound-call e (entry (evaluation s t)) = subst SoundMesh (sym (evaluation-mesh e s t)) mesh-sound
-  sound-call e build = subst SoundMesh (sym (generates e .1)) mesh-sound
+  sound-call e generate-knot-vectors = subst SoundMesh (sym (generates e .1)) mesh-sound
+  sound-call e (point-knot-vectors n) = mesh-sound
+  sound-call e (cast-ray n d buffer) = mesh-sound
   sound-call e (direct call) =
       record {
         sound = sound-direct (storeOf map) call (mesh-sound .sound);
@@ -217,5 +219,7 @@ module _ (map : Tmesh) (mesh-sound : SoundMesh (map .mesh)) where
       → isListed (afterCall e map call) n ≡ ((addsPoint e map call && eqb n (storeOf map .made)) || isListed map n)
   listing-call e (entry (insertion con d ratio position)) n = insertion-lists e con d ratio position n
   listing-call e (entry (evaluation s t)) n = ap (λ (mesh : Mesh). getD (mesh .listed) n false) (evaluation-mesh e s t)
-  listing-call e build n = ap (λ (mesh : Mesh). getD (mesh .listed) n false) (generates e .1)
+  listing-call e generate-knot-vectors n = ap (λ (mesh : Mesh). getD (mesh .listed) n false) (generates e .1)
+  listing-call e (point-knot-vectors m) n = refl
+  listing-call e (cast-ray m d buffer) n = refl
   listing-call e (direct call) n = refl

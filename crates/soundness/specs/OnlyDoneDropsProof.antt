@@ -14,7 +14,7 @@ use Rattle.t_mesh.specs.Tmesh.{storeOf, isListed}
 use Rattle.t_mesh.specs.declared.t_mesh.Tmesh.{Tmesh}
 use Rattle.calls.specs.Calls.{insertion, evaluation}
 use Rattle.mirror.specs.BoolLaws.{cond-case}
-use Rattle.soundness.specs.MapCalls.{entry, build, direct}
+use Rattle.soundness.specs.MapCalls.{entry, generate-knot-vectors, point-knot-vectors, cast-ray, direct}
 use Rattle.soundness.specs.Theorems.{OnlyDoneDrops}
 
 -- an insertion that is not done
@@ -33,5 +33,7 @@ unfolding addControlPoint subsOf withKnots generateKnotVectors
 only-done-drops e map (entry (insertion con d ratio position)) k done = kept-after (map .kept) (insertPoint e (storeOf map) (isListed map con) con d ratio .answer) k done
 only-done-drops e map (entry (evaluation s t)) k done =
     cond-case (map .kept) (λ (generated : Generated). generated .map .kept ≡ true) _ _ (λ _. k) (λ _. kept-built map (allKnots e map) k)
-only-done-drops e map build k done = kept-built map (allKnots e map) k
+only-done-drops e map generate-knot-vectors k done = kept-built map (allKnots e map) k
+only-done-drops e map (point-knot-vectors n) k done = k
+only-done-drops e map (cast-ray n d buffer) k done = k
 only-done-drops e map (direct call) k done = k

@@ -1,11 +1,10 @@
 -- Theorems on lists of calls on a map: statements only, with what they speak of. The lists are every list of insertions, evaluations,
--- buildings of knots and direct calls on a fresh map of any border weight and corners, with any closeness and any arguments, calls refused or
--- torn among them. Of the maps that
--- they leave is said that links are mirrored, what is listed, that no connect of an insertion fails, and that 11 is met by no call; the call
--- that is spoken of may have a closeness other than the list's.
-use Prim.Native.Nat.{ℕ, _<_}
+-- buildings of knots, rays and direct calls on a fresh map of any border weight and corners, with any closeness and any arguments, calls
+-- refused or torn among them. Of the maps that they leave is said that links are mirrored and how they are counted, what is listed, that no
+-- connect of an insertion fails, and where 11 is answered; the call that is spoken of may have a closeness other than the list's.
+use Prim.Native.Nat.{ℕ, _<_, _+_, _*_}
 use mathlib.Core.Path.{_≡_}
-use mathlib.Core.Bool.{Bool, true, false, _&&_, _||_}
+use mathlib.Core.Bool.{true, false, not, _&&_, _||_}
 use mathlib.Core.List.{List, [], _∷_}
 use mathlib.Core.Logic.{_⊎_}
 use lib.Dec.{eqb}
@@ -13,36 +12,32 @@ use lib.Ieee.{Float, inf}
 use Rattle.float64.specs.Literals.{oneLiteral}
 use Rattle.control_point.specs.Small.{millionth}
 use Rattle.control_point.specs.Told.{refusedBy}
-use Rattle.control_point.specs.declared.t_mesh_direction.TmeshDirection.the-variants.{Right}
-use Rattle.mirror.specs.Calls.{connect, remove-connection}
+use Rattle.control_point.specs.declared.t_mesh_direction.TmeshDirection.the-variants.{Up, Right, Down, Left}
+use Rattle.mirror.specs.Calls.{Call as Direct, connect, remove-connection, runCalls}
 use Rattle.calls.specs.ExampleValues.{half}
 use Rattle.control_point.specs.Direction.{clockwiseOf, antiClockwiseOf}
-use Rattle.control_point.specs.declared.refusal.Outcome.the-variants.{Done, Refused}
+use Rattle.control_point.specs.declared.refusal.Outcome.the-variants.{Done}
 use Rattle.control_point.specs.Refusal.{refusalNumber}
 use Rattle.control_point.specs.declared.refusal.Refusal.{Refusal}
 use Rattle.control_point.specs.declared.refusal.Refusal.the-variants.{NoPoint}
 use Rattle.control_point.specs.declared.t_mesh_direction.TmeshDirection.{TmeshDirection}
 use Rattle.control_point.specs.declared.t_mesh_control_point.Side.the-variants.{Link, Opening}
-use Rattle.navigation.specs.declared.walk.Walk.the-variants.{Refused as NoWalk}
-use Rattle.store.specs.Store.{storeSides, withSideAt, connectPoints, navigateUntilCon}
+use Rattle.store.specs.Store.{storeSides, withSideAt, connectPoints}
 use Rattle.store.specs.declared.store.Store.{Store}
 use Rattle.mirror.specs.Mirror.{Sound}
 use Rattle.insertion.specs.Insert.{insertTold, nearJoined, farJoined, placed, sought, firstSide, withFirst, secondSide, sided, insertPoint}
 use Rattle.insertion.specs.declared.insertion.NewSide.{NewSide}
 use Rattle.insertion.specs.declared.insertion.NewSide.the-variants.{Takes, Joins, Opens, Tears, Stays}
 use Rattle.insertion.specs.declared.insertion.Inserted.{Inserted}
-use Rattle.insertion.specs.declared.insertion.InsertAnswer.the-variants.{Refused as NotAdded}
-use Rattle.ray.specs.Knots.{pointKnotVectors}
 use Rattle.search.specs.declared.search.Found.the-variants.{Failed}
-use Rattle.ray.specs.Ray.{refused, rayOf}
 use Rattle.t_mesh.specs.Insertion.{isRefused, addControlPoint}
-use Rattle.t_mesh.specs.Tmesh.{storeOf, isListed, newTmesh}
+use Rattle.t_mesh.specs.Tmesh.{storeOf, withStore, isListed, newTmesh}
 use Rattle.t_mesh.specs.declared.t_mesh.Position.{Position}
 use Rattle.t_mesh.specs.declared.t_mesh.Tmesh.{Tmesh}
 use Rattle.surface.specs.Evaluation.{subsOf}
-use Rattle.knot_vectors.specs.Knots.{generateKnotVectors}
 use Rattle.surface.specs.declared.evaluation.EvaluationAnswer.the-variants.{Refused as NoValue}
-use Rattle.soundness.specs.MapCalls.{MapCall, direct, afterCall, mapAfterAll, addsPoint}
+use Rattle.census.specs.Census.{countBelow, hasLink, countsOf}
+use Rattle.soundness.specs.MapCalls.{MapCall, direct, afterCall, mapAfterAll, directs, addsPoint, numberTo, pointsMade}
 
 -- ---- the maps
 -- what holds of the map after every list of calls on every fresh one
@@ -54,6 +49,23 @@ EveryMap Holds =
 -- Each link of a made point leads to another made point, whose facing side links back with the same interval, bit for bit.
 abbrev pub EveryMapMirrored : Type 0
 EveryMapMirrored = EveryMap (λ map. Sound (storeOf map))
+
+-- ---- direct calls
+-- On every map: a list of direct calls leaves the map with the store that the same list leaves of the map's store. The listing, the positions
+-- and the kept knots are as they were.
+abbrev pub DirectCallsOnStore : Type 0
+DirectCallsOnStore =
+    (e : Float) (map : Tmesh) (calls : List Direct) → mapAfterAll e map (directs calls) ≡ withStore map (runCalls (storeOf map) calls)
+
+-- ---- the links counted
+-- the link sides of made points, in all four directions
+abbrev pub linkSides : Store → ℕ
+linkSides store =
+    countBelow 128 (hasLink store Up) + countBelow 128 (hasLink store Right) + countBelow 128 (hasLink store Down) + countBelow 128 (hasLink store Left)
+
+-- Each link that is counted has two ends: the link sides of made points are twice the links.
+abbrev pub LinkSidesAreTwice : Type 0
+LinkSidesAreTwice = EveryMap (λ map. linkSides (storeOf map) ≡ 2 * countsOf map .links)
 
 -- ---- the listing
 -- Each number that is listed is made.
@@ -68,6 +80,12 @@ ListingGrows =
     (λ map.
     (e : Float) (call : MapCall) (n : ℕ)
     → isListed (afterCall e map call) n ≡ ((addsPoint e map call && eqb n (storeOf map .made)) || isListed map n))
+
+-- ---- refusals
+-- On every map: a call that is refused leaves the map as it was, the kept knots too. Torn, 8, leaves what was done.
+abbrev pub RefusedKeepsMap : Type 0
+RefusedKeepsMap =
+    (e : Float) (map : Tmesh) (call : MapCall) → (numberTo e map call ≡ 0 → ⊥) → (numberTo e map call ≡ 8 → ⊥) → afterCall e map call ≡ map
 
 -- ---- the kept knots
 -- On every map: only an insertion done drops the kept knots. Every other call, refused or not, leaves them kept.
@@ -121,24 +139,15 @@ pub record Seeking (e : Float) (store : Store) (con : ℕ) (d : TmeshDirection) 
   pub first : sought e (storeSides (placed store con other d interval ratio)) (placed store con other d interval ratio .made) (store .made) (clockwiseOf d) ≡ Failed NoPoint → ⊥
   pub second : sought e (storeSides (withFirst e (placed store con other d interval ratio) con (store .made) d)) (placed store con other d interval ratio .made) (store .made) (antiClockwiseOf d) ≡ Failed NoPoint → ⊥
 
--- no call on a map meets 11: no insertion is refused so, nor does a search of it fail so; no walk, no ray of any length and no building of
--- knots from a made point is refused so; nor are the building of all knots and an evaluation
+-- where 11 is met on a map: a call answers it where a point that it is given was never made, and nowhere else, so that an insertion, an
+-- evaluation and the building of all knots never do, nor a walk, a ray or the knots of a made point; and no search of an insertion fails by it
 pub record MeetsPoints (map : Tmesh) : Type 0 where
-  pub adds : (e : Float) (con : ℕ) (d : TmeshDirection) (ratio : Float) (position : Position)
-      → addControlPoint e map con d ratio position .answer ≡ NotAdded NoPoint → ⊥
+  pub answers : (e : Float) (call : MapCall) → eqb (numberTo e map call) 11 ≡ not (pointsMade map call)
   pub seeks : (e : Float) (con : ℕ) (d : TmeshDirection) (ratio : Float) (position : Position)
       → isRefused (addControlPoint e map con d ratio position .answer) ≡ false
       → Seeking e (storeOf map) con d ratio (insertPoint e (storeOf map) (isListed map con) con d ratio)
-  pub walks : (n : ℕ) → n < storeOf map .made → (travel watch : TmeshDirection)
-      → navigateUntilCon (storeOf map) n travel watch ≡ NoWalk NoPoint → ⊥
-  pub casts : (n : ℕ) → n < storeOf map .made → (e : Float) (d : TmeshDirection) (length : ℕ)
-      → rayOf e (storeSides (storeOf map)) (storeOf map .made) n d length ≡ refused NoPoint → ⊥
-  pub builds : (n : ℕ) → n < storeOf map .made → (e : Float)
-      → pointKnotVectors e (storeOf map) n .outcome ≡ Refused NoPoint → ⊥
-  pub generates : (e : Float) → generateKnotVectors e map .outcome ≡ Refused NoPoint → ⊥
-  pub evaluates : (e s t : Float) → subsOf e map s t .answer ≡ NoValue NoPoint → ⊥
 
--- Links and listing lead to made points only, so 11 does not arise.
+-- Links and listing lead to made points only, so 11 does not arise inside a call.
 abbrev pub NoPointNever : Type 0
 NoPointNever = EveryMap MeetsPoints
 

@@ -1,0 +1,54 @@
+-- Refused, a call leaves the map as it was: each is defined so.
+use mathlib.Core.Path.{_≡_, refl, ap, _∙_}
+use Rattle.control_point.specs.Told.{outcomeNumber}
+use Rattle.control_point.specs.declared.refusal.Outcome.{Outcome}
+use Rattle.control_point.specs.declared.refusal.Outcome.the-variants.{Done, Refused}
+use Rattle.store.specs.declared.store.Store.{Store}
+use Rattle.mirror.specs.BoolLaws.{cond-case}
+use Rattle.mirror.specs.RefusedUnchangedProof.{refused-unchanged}
+use Rattle.insertion.specs.Insert.{answerNumber, insertPoint}
+use Rattle.insertion.specs.declared.insertion.InsertAnswer.{InsertAnswer}
+use Rattle.insertion.specs.declared.insertion.InsertAnswer.the-variants.{Done as Added, Torn, Refused as NotAdded}
+use Rattle.knot_vectors.specs.Knots.{AllKnots, all, none, allKnots, keeping, generateKnotVectors}
+use Rattle.knot_vectors.specs.declared.knots.Generated.{Generated}
+use Rattle.surface.specs.Evaluation.{evaluationNumber, valueOf, answerBy, withKnots, subsOf}
+use Rattle.surface.specs.declared.evaluation.Evaluation.{Evaluation}
+use Rattle.t_mesh.specs.Insertion.{afterInsertion, addControlPoint}
+use Rattle.t_mesh.specs.Tmesh.{storeOf, withStore, isListed}
+use Rattle.t_mesh.specs.declared.t_mesh.Position.{Position}
+use Rattle.t_mesh.specs.declared.t_mesh.Tmesh.{Tmesh}
+use Rattle.calls.specs.Calls.{insertion, evaluation}
+use Rattle.soundness.specs.MapCalls.{entry, generate-knot-vectors, point-knot-vectors, cast-ray, direct}
+use Rattle.soundness.specs.Theorems.{RefusedKeepsMap}
+
+-- an insertion that is neither done nor torn
+by-answer : (map : Tmesh) (position : Position) (answer : InsertAnswer) (store : Store) → (answerNumber answer ≡ 0 → ⊥) → (answerNumber answer ≡ 8 → ⊥)
+    → afterInsertion map position answer store ≡ map
+by-answer map position (Added opened inferred) store done torn = absurd (done refl)
+by-answer map position (Torn opened inferred) store done torn = absurd (torn refl)
+by-answer map position (NotAdded refusal) store done torn = refl
+
+-- a building that is not done
+abbrev Keeps : Tmesh → Generated → Type 0
+Keeps map generated = (outcomeNumber (generated .outcome) ≡ 0 → ⊥) → generated .map ≡ map
+
+keeps-built : (map : Tmesh) (rows : AllKnots) → Keeps map (keeping map rows)
+keeps-built map (all rows) done = absurd (done refl)
+keeps-built map (none refusal) done = refl
+
+-- an evaluation answers the number of its building
+number-by : (outcome : Outcome) (value : Evaluation) → evaluationNumber (answerBy outcome value) ≡ outcomeNumber outcome
+number-by Done value = refl
+number-by (Refused refusal) value = refl
+
+pub refused-keeps-map : RefusedKeepsMap
+unfolding addControlPoint subsOf withKnots generateKnotVectors
+refused-keeps-map e map (entry (insertion con d ratio position)) done torn =
+    let result = insertPoint e (storeOf map) (isListed map con) con d ratio in by-answer map position (result .answer) (result .store) done torn
+refused-keeps-map e map (entry (evaluation s t)) done torn =
+    cond-case (map .kept) (Keeps map) _ _ (λ _ _. refl) (λ _. keeps-built map (allKnots e map))
+    (λ built. done (number-by (withKnots e map .outcome) (valueOf (withKnots e map .map) s t) ∙ built))
+refused-keeps-map e map generate-knot-vectors done torn = keeps-built map (allKnots e map) done
+refused-keeps-map e map (point-knot-vectors n) done torn = refl
+refused-keeps-map e map (cast-ray n d buffer) done torn = refl
+refused-keeps-map e map (direct call) done torn = ap (withStore map) (refused-unchanged (storeOf map) call done)
