@@ -1,39 +1,45 @@
--- Both ends are one definition: the report's last line and the C call cite the same set-point.
-use Prim.Native.Nat.{ℕ}
-use mathlib.Core.Path.{_≡_, refl, sym, ap, _∙_}
-use mathlib.Core.List.{List, _++_, append-assoc}
+-- Both ends are one definition: the report and the C call cite the same check of the file and the same set-point.
+use Prim.Native.Nat.{ℕ, _≤_}
+use mathlib.Core.Path.{_≡_, sym, ap, _∙_}
+use mathlib.Core.List.{List, _++_}
+use borrow.Author.Tests.{le-leb}
+use lib.Ieee.{binary64, ofBits}
+use lib.ListN.{length}
 use Rattle.control_point.specs.Small.{millionth}
 use Rattle.census.specs.Census.{countsOf}
+use Rattle.surface.specs.Evaluation.{evaluationNumber}
+use Rattle.surface.specs.declared.evaluation.EvaluationAnswer.{EvaluationAnswer}
 use Rattle.t_mesh.specs.Tmesh.{storeOf}
 use Rattle.map_format.specs.Format.{checkedFile}
-use Rattle.map_file.specs.Run.{fileMap, fileNumbers, setPointAt, checkedSetPoint, fileSetPoint}
+use Rattle.map_file.specs.Run.{fileMap, fileNumbers, checkedSetPoint, fileSetPoint}
 use Rattle.map_format.specs.declared.format.FileCheck.{FileCheck}
-use Rattle.map_format.specs.declared.format.FileCheck.the-variants.{Valid}
+use Rattle.map_format.specs.declared.format.FileCheck.the-variants.{Valid, Refused}
 use Rattle.report_lines.specs.Lines.{editLines, countsLine, openLines, midLine}
-use Rattle.report.specs.Report.{half, checkedReport, reportOf}
-use Rattle.gatemap_host.specs.SetPoint.{hostAnswer, hostNumber, hostBuffer}
-use Rattle.file_soundness.specs.Theorems.{BytesDecide, EndsAgree, halfBits}
+use Rattle.report.specs.Report.{checkedReport, reportOf}
+use Rattle.value_bytes.specs.Value.{valueBytes}
+use Rattle.gatemap_host.specs.SetPoint.{hostAnswer, bufferAfter}
+use Rattle.file_soundness.specs.Theorems.{EndsAgree, EndsRefuse, halfBits}
 
-pub bytes-decide : BytesDecide
-bytes-decide file same is =
-    (ap reportOf is, λ s t out. (ap (λ (bytes : List ℕ). hostNumber bytes s t out) is, ap (λ (bytes : List ℕ). hostBuffer bytes s t out) is))
-
--- the C call's answer, where the file is valid
-answer-at : (file : List ℕ) (count : ℕ) → checkedFile file ≡ Valid count → hostAnswer file halfBits halfBits 32 ≡ setPointAt millionth (fileMap millionth file count) half half
+-- what the C call finds, by the check of the file, in a buffer with room
+found-by : (file : List ℕ) (s t room : ℕ) (check : FileCheck) → checkedFile file ≡ check → 32 ≤ room
+    → hostAnswer file s t room ≡ checkedSetPoint millionth file (ofBits binary64 s) (ofBits binary64 t) check
 unfolding hostAnswer fileSetPoint
-answer-at file count valid = ap (checkedSetPoint millionth file half half) valid
+found-by file s t room check is enough = rw (le-leb valueBytes room enough) (ap (checkedSetPoint millionth file (ofBits binary64 s) (ofBits binary64 t)) is)
 
 pub ends-agree : EndsAgree
 unfolding reportOf
-ends-agree file count valid =
-    let edits = editLines 1 (fileNumbers millionth file count) in
+ends-agree file count room valid enough =
     let map = fileMap millionth file count in
-    let counts = countsLine (countsOf map) in
-    let openings = openLines (storeOf map) 512 in
-    let mid = midLine (setPointAt millionth map half half) in (
-      edits ++ (counts ++ openings),
-      ap (checkedReport file) valid
-          ∙ ap (λ (rest : List ℕ). edits ++ rest) (sym (append-assoc counts openings mid))
-          ∙ sym (append-assoc edits (counts ++ openings) mid)
-          ∙ ap (λ answer. (edits ++ (counts ++ openings)) ++ midLine answer) (sym (answer-at file count valid)),
-    )
+    ap (checkedReport file) valid
+    ∙ ap
+    (λ (answer : EvaluationAnswer). editLines 1 (fileNumbers millionth file count) ++ (countsLine (countsOf map) ++ (openLines (storeOf map) 512 ++ midLine answer)))
+    (sym (found-by file halfBits halfBits room (Valid count) valid enough))
+
+pub ends-refuse : EndsRefuse
+unfolding reportOf
+ends-refuse file refusal refused = (
+  ap (checkedReport file) refused,
+  λ s t out enough.
+      let found = found-by file s t (length out) (Refused refusal) refused enough in
+      (ap evaluationNumber found, ap (λ (answer : EvaluationAnswer). bufferAfter answer out) found),
+)

@@ -1,8 +1,8 @@
 -- The bound for files: a file's edits and one evaluation are a list of calls, to which the bound over lists applies; what the call wrote of its answer is read
 -- back as it was.
-use Prim.Native.Nat.{ℕ, zero, suc, _+_, _≤_, _<_}
+use Prim.Native.Nat.{ℕ, zero, _+_, _≤_, _<_}
 use mathlib.Core.Path.{_≡_, refl, sym, ap, _∙_, subst}
-use mathlib.Core.Bool.{Bool, true, false, cond, true≢false}
+use mathlib.Core.Bool.{Bool, true, false, cond}
 use mathlib.Core.List.{List, [], _∷_, _++_, append-assoc}
 use native.Mathlib.Omega.{arith}
 use lib.Dec.{T, leb, eqb, leb→le, lit<}
@@ -14,9 +14,9 @@ use Rattle.float64.specs.BitsLaws.{read-back}
 use Rattle.float64.specs.Literals.{zeroLiteral}
 use Rattle.float64.specs.Sign.{0f}
 use Rattle.float64.specs.SignLaws.{literal-zero}
-use Rattle.big_endian.specs.BigEndian.{byteAt, numberAt, floatAt}
+use Rattle.big_endian.specs.BigEndian.{byteAt, floatAt}
 use Rattle.big_endian.specs.ReadBackLaws.{number-back}
-use Rattle.big_endian.specs.Written.{written, bytesOf}
+use Rattle.big_endian.specs.Written.{written}
 use Rattle.big_endian.specs.WrittenLaws.{length-bytes}
 use Rattle.control_point.specs.Refusal.{refusalNumber}
 use Rattle.control_point.specs.Small.{millionth}
@@ -24,7 +24,6 @@ use Rattle.control_point.specs.declared.refusal.Outcome.{Outcome}
 use Rattle.control_point.specs.declared.refusal.Outcome.the-variants.{Done, Refused as NotBuilt}
 use Rattle.control_point.specs.declared.refusal.Refusal.{Refusal}
 use Rattle.control_point.specs.declared.refusal.Refusal.the-variants.{Ratio, Foreign, OpenSide, BorderSide, Taken, Interval, Itself, Torn, Ring, Full, NoPoint, Length, Version, Heading, NoWeight, Short, Pull, Clash, Shut, OffMap, Seed, TooMany, UnlikeHeads, TooLong, Closeness, Ticks, Doubled}
-use Rattle.insertion.specs.Insert.{answerNumber}
 use Rattle.t_mesh.specs.Tmesh.{Axis, X, Y, Z, coordinate}
 use Rattle.t_mesh.specs.declared.t_mesh.Position.{Position}
 use Rattle.t_mesh.specs.declared.t_mesh.Tmesh.{Tmesh}
@@ -32,18 +31,19 @@ use Rattle.surface.specs.Evaluation.{onAxis, evaluationNumber, valueOf, answerB
 use Rattle.surface.specs.declared.evaluation.Evaluation.{Evaluation}
 use Rattle.surface.specs.declared.evaluation.EvaluationAnswer.{EvaluationAnswer}
 use Rattle.surface.specs.declared.evaluation.EvaluationAnswer.the-variants.{Is, Refused}
-use Rattle.calls.specs.Calls.{Call, insertion, evaluation, Answer, inserted, evaluated, Event, runOf}
+use Rattle.calls.specs.Calls.{Call, insertion, evaluation, evaluated, runOf}
 use Rattle.calls.specs.FullStroke.{InUnit, Each, DoneInUnit as CallDoneInUnit, EvaluationInUnit}
 use Rattle.calls.specs.FullStrokeProof.{never-past-full-stroke}
 use Rattle.mirror.specs.BoolLaws.{cond-case}
+use Rattle.soundness.specs.MapCalls.{numberOf}
 use Rattle.map_format.specs.Format.{versionAt, theVersion, borderAt, editsAt, editCount, editsFrom, lengthRight, headingsRight, checkedFile}
 use Rattle.map_file.specs.Run.{cornerOf, freshMap, edited, afterEdits, editNumbers, fileMap, asSetPoint, checkedSetPoint, fileSetPoint}
 use Rattle.map_format.specs.declared.format.Edit.{Edit}
 use Rattle.map_format.specs.declared.format.FileCheck.{FileCheck}
 use Rattle.map_format.specs.declared.format.FileCheck.the-variants.{Valid, Refused as NotValid}
 use Rattle.value_bytes.specs.Value.{bitsOf, bytesOfValue}
-use Rattle.gatemap_host.specs.SetPoint.{hostAnswer, bufferAfter, hostBuffer}
-use Rattle.file_soundness.specs.CallsLaws.{callOf, callsOf}
+use Rattle.gatemap_host.specs.SetPoint.{hostAnswer, bufferAfter}
+use Rattle.file_soundness.specs.CallsLaws.{callsOf}
 use Rattle.file_soundness.specs.Theorems.{DoneInUnit, placeOf, FileNeverPastFullStroke}
 
 -- ---- the list of calls
@@ -58,10 +58,6 @@ isInsertion (evaluation s t) = ⊥
 abbrev positionIn : Call → Position
 positionIn (insertion con d ratio position) = position
 positionIn (evaluation s t) = noPosition
-
-abbrev numberOf : Answer → ℕ
-numberOf (inserted answer) = answerNumber answer
-numberOf (evaluated answer) = evaluationNumber answer
 
 module _ (axis : Axis) (e s t : Float) where
   done-calls : (edits : List Edit) (map : Tmesh) → DoneInUnit axis edits (editNumbers e map edits)
@@ -221,9 +217,15 @@ module _ (file : List ℕ) (axis : Axis) (s t : Float) where
       evaluated-in-unit : EvaluationInUnit axis (record { call = evaluation s t; answer = evaluated (subsOf millionth left s t .answer) })
       evaluated-in-unit =
           last-call axis millionth s t edits (freshMap file)
-          (never-past-full-stroke millionth (floatAt file borderAt) (cornerOf file 0) (cornerOf file 1) (cornerOf file 2) (cornerOf file 3)
-          (withEvaluation edits s t) axis border (corners 0 (lit< tt)) (corners 1 (lit< tt)) (corners 2 (lit< tt)) (corners 3 (lit< tt))
-          (done-calls axis millionth s t edits (freshMap file) done))
+          (never-past-full-stroke millionth (floatAt file borderAt) (cornerOf file 0) (cornerOf file 1) (cornerOf file 2) (cornerOf file 3) axis (withEvaluation edits s t)
+          (record {
+            border = border;
+            bottom-left = corners 0 (lit< tt);
+            bottom-right = corners 1 (lit< tt);
+            top-right = corners 2 (lit< tt);
+            top-left = corners 3 (lit< tt);
+            done = done-calls axis millionth s t edits (freshMap file) done;
+          }))
 
       -- the set-point of a value
       in-unit : (value : Evaluation) → asSetPoint (subsOf millionth left s t .answer) ≡ Is value → InUnit (onAxis axis value) × T (fits binary64 (onAxis axis value))

@@ -1,43 +1,53 @@
 -- Theorems on map files: statements only, with what they speak of. A file is any list of bytes. What the program prints of it is `reportOf`, and what a C host
 -- gets is `hostNumber` and `hostBuffer`: the definitions that the contracts of the code cite.
-use Prim.Native.Nat.{ℕ, _<_}
+use Prim.Native.Nat.{ℕ, _<_, _≤_}
 use mathlib.Core.Path.{_≡_}
 use mathlib.Core.List.{List, [], _∷_, _++_}
 use lib.Dec.{T}
 use lib.Ieee.{le}
+use lib.ListN.{length}
 use Rattle.float64.specs.Sign.{0f}
 use Rattle.big_endian.specs.BigEndian.{floatAt}
+use Rattle.control_point.specs.Refusal.{refusalNumber}
 use Rattle.control_point.specs.Small.{millionth}
-use Rattle.t_mesh.specs.Tmesh.{Axis, X, Y, Z, coordinate}
+use Rattle.control_point.specs.declared.refusal.Refusal.{Refusal}
+use Rattle.t_mesh.specs.Tmesh.{Axis, X, Y, Z, coordinate, storeOf}
+use Rattle.census.specs.Census.{countsOf}
 use Rattle.calls.specs.FullStroke.{InUnit}
 use Rattle.soundness.specs.Theorems.{OneOf}
 use Rattle.map_format.specs.Format.{borderAt, editsAt, editCount, editsFrom, checkedFile}
-use Rattle.map_file.specs.Run.{cornerOf, fileNumbers}
+use Rattle.map_file.specs.Run.{cornerOf, fileMap, fileNumbers}
 use Rattle.map_format.specs.declared.format.Edit.{Edit}
-use Rattle.map_format.specs.declared.format.FileCheck.the-variants.{Valid}
-use Rattle.report_lines.specs.Lines.{midLine}
+use Rattle.map_format.specs.declared.format.FileCheck.the-variants.{Valid, Refused}
+use Rattle.report_text.specs.Text.{fileWord, newline, refusedText}
+use Rattle.report_lines.specs.Lines.{editLines, countsLine, openLines, midLine}
 use Rattle.report.specs.Report.{reportOf}
 use Rattle.gatemap_host.specs.SetPoint.{hostAnswer, hostNumber, hostBuffer}
 
 -- ---- one definition at both ends
--- Files with equal bytes have equal reports, and equal answers and buffers at every place: nothing but the bytes decides.
-abbrev pub BytesDecide : Type 0
-BytesDecide =
-    (file same : List ℕ)
-    → file ≡ same
-    → (reportOf file ≡ reportOf same)
-    × ((s t : ℕ) (out : List ℕ) → (hostNumber file s t out ≡ hostNumber same s t out) × (hostBuffer file s t out ≡ hostBuffer same s t out))
-
 -- the bits of 0.5
 abbrev pub halfBits : ℕ
 halfBits = 0x3fe0_0000_0000_0000
 
--- The last line that the program prints of a valid file is the C call's answer at (0.5, 0.5), where its buffer has room.
+-- What the program prints of a valid file is a line for each refused edit, the counts, a line for each opening, and the line `mid` of the
+-- C call's answer at (0.5, 0.5), in any buffer that has room.
 abbrev pub EndsAgree : Type 0
 EndsAgree =
-    (file : List ℕ) (count : ℕ)
+    (file : List ℕ) (count room : ℕ)
     → checkedFile file ≡ Valid count
-    → (before : List ℕ) × (reportOf file ≡ before ++ midLine (hostAnswer file halfBits halfBits 32))
+    → 32 ≤ room
+    → reportOf file
+    ≡ editLines 1 (fileNumbers millionth file count)
+    ++ (countsLine (countsOf (fileMap millionth file count))
+    ++ (openLines (storeOf (fileMap millionth file count)) 512 ++ midLine (hostAnswer file halfBits halfBits room)))
+
+-- Of a refused file the program prints `file refused N`, and the C call returns that N at every place and leaves the buffer as it was, where it has room.
+abbrev pub EndsRefuse : Type 0
+EndsRefuse =
+    (file : List ℕ) (refusal : Refusal)
+    → checkedFile file ≡ Refused refusal
+    → (reportOf file ≡ fileWord ++ (refusedText (refusalNumber refusal) ++ newline))
+    × ((s t : ℕ) (out : List ℕ) → 32 ≤ length out → (hostNumber file s t out ≡ refusalNumber refusal) × (hostBuffer file s t out ≡ out))
 
 -- ---- the numbers
 -- Whatever it is given, the C call returns 0 or one of the refusals 3, 4, 9 and 12 to 16.
