@@ -11,11 +11,11 @@ use Rattle.surface.specs.Evaluation.{evaluationNumber}
 use Rattle.surface.specs.declared.evaluation.EvaluationAnswer.{EvaluationAnswer}
 use Rattle.t_mesh.specs.Tmesh.{storeOf}
 use Rattle.map_format.specs.Format.{checkedFile}
-use Rattle.map_file.specs.Run.{fileMap, fileNumbers, checkedSetPoint, fileSetPoint}
+use Rattle.map_file.specs.Run.{fileMap, fileNumbers, setPointAt, checkedSetPoint, fileSetPoint}
 use Rattle.map_format.specs.declared.format.FileCheck.{FileCheck}
 use Rattle.map_format.specs.declared.format.FileCheck.the-variants.{Valid, Refused}
 use Rattle.report_lines.specs.Lines.{editLines, countsLine, openLines, midLine}
-use Rattle.report.specs.Report.{checkedReport, reportOf}
+use Rattle.report.specs.Report.{half, checkedReport, reportOf}
 use Rattle.value_bytes.specs.Value.{valueBytes}
 use Rattle.gatemap_host.specs.SetPoint.{hostAnswer, bufferAfter}
 use Rattle.file_soundness.specs.Theorems.{EndsAgree, EndsRefuse, halfBits}
@@ -26,6 +26,11 @@ found-by : (file : List ℕ) (s t room : ℕ) (check : FileCheck) → checkedFil
 unfolding hostAnswer fileSetPoint
 found-by file s t room check is enough = rw (le-leb valueBytes room enough) (ap (checkedSetPoint millionth file (ofBits binary64 s) (ofBits binary64 t)) is)
 
+-- the set-point that the report's last line is of
+answer-at : (file : List ℕ) (count room : ℕ) → checkedFile file ≡ Valid count → 32 ≤ room
+    → hostAnswer file halfBits halfBits room ≡ setPointAt millionth (fileMap millionth file count) half half
+answer-at file count room valid enough = found-by file halfBits halfBits room (Valid count) valid enough
+
 pub ends-agree : EndsAgree
 unfolding reportOf
 ends-agree file count room valid enough =
@@ -33,7 +38,7 @@ ends-agree file count room valid enough =
     ap (checkedReport file) valid
     ∙ ap
     (λ (answer : EvaluationAnswer). editLines 1 (fileNumbers millionth file count) ++ (countsLine (countsOf map) ++ (openLines (storeOf map) 512 ++ midLine answer)))
-    (sym (found-by file halfBits halfBits room (Valid count) valid enough))
+    (sym (answer-at file count room valid enough))
 
 pub ends-refuse : EndsRefuse
 unfolding reportOf
