@@ -195,5 +195,5 @@ step-down c nan h k = rw (sub-nan-right binary64 c) tt
 step-down c (inf s) h k = or-number (isNan (sub binary64 c (inf s))) (le (sub binary64 c (inf s)) c) (sub-down binary64 c (inf s) h k)
 step-down c (fin s m e) h k = or-number (isNan (sub binary64 c (fin s m e))) (le (sub binary64 c (fin s m e)) c) (sub-down binary64 c (fin s m e) h k)
 
-pub nonNegative : NonNegative
-nonNegative u centre down downAgain up upAgain h k l = formula-nonnegOrNan u _ (step-down centre down h k) (step-up centre up h l)
+pub non-negative : NonNegative
+non-negative u centre down downAgain up upAgain h k l = formula-nonnegOrNan u _ (step-down centre down h k) (step-up centre up h l)

@@ -10,11 +10,11 @@ use lib.Signed.{leZ, _≤ℤ_}
 use Rattle.basis_recursion.specs.Exact.{NeverFall, FormulaIsRecursion, NoQuotientByZero}
 use Rattle.basis_recursion.specs.Fraction.{Fraction, whole, times, fractionArithmetic}
 use Rattle.basis_recursion.proofs.Field.{Order, eq-mul}
-use Rattle.basis_recursion.proofs.FormulaIsRecursion.{formula-is-recursion}
+use Rattle.basis_recursion.proofs.FormulaIsRecursion.{formula-in-field}
 use Rattle.basis_recursion.proofs.FractionLaws.{le-not, lt-le-lt, lt-minus}
 use Rattle.basis_recursion.proofs.Homomorphism.{map-basis, map-formula}
 use Rattle.basis_recursion.proofs.IntegerOrder.{scale-leZ}
-use Rattle.basis_recursion.proofs.NoQuotientByZero.{no-quotient-by-zero}
+use Rattle.basis_recursion.proofs.NoQuotientByZero.{quotients-defined}
 use Rattle.basis_recursion.proofs.Place.{Ascending}
 use Rattle.basis_recursion.proofs.Rationals.{rationals, rational-field, rational-order, number, number-keeps, same-number}
 
@@ -33,11 +33,11 @@ numbers-ascend : (k : ℕ → ℤ) → NeverFall k → Ascending rationals (λ i
 unfolding rationals Quotient·lift₂
 numbers-ascend k n = let h = ascending k n in record { first = h .first; second = h .second; third = h .third; fourth = h .fourth }
 
-pub formulaIsRecursion : FormulaIsRecursion
-formulaIsRecursion u k n =
+pub formula-is-recursion : FormulaIsRecursion
+formula-is-recursion u k n =
     same-number _ _
     (map-formula number number-keeps u (λ i. whole (k i))
-    ∙ formula-is-recursion rationals rational-field (number u) (λ i. number (whole (k i))) rational-order (numbers-ascend k n)
+    ∙ formula-in-field rationals rational-field (number u) (λ i. number (whole (k i))) rational-order (numbers-ascend k n)
     ∙ sym (map-basis number number-keeps u (λ i. whole (k i)) 3 0))
 
 fraction-order : Order fractionArithmetic
@@ -47,6 +47,6 @@ fraction-mul : (x y : Fraction) → fractionArithmetic .eq (times x y) (whole (p
 unfolding rationals Quotient·lift₂
 fraction-mul x y = eq-mul rationals rational-field (number x) (number y)
 
-pub noQuotientByZero : NoQuotientByZero
-noQuotientByZero u k n =
-    no-quotient-by-zero fractionArithmetic fraction-order (record { eq-mul = fraction-mul; lt-sub = lt-minus }) u (λ i. whole (k i)) (ascending k n)
+pub no-quotient-by-zero : NoQuotientByZero
+no-quotient-by-zero u k n =
+    quotients-defined fractionArithmetic fraction-order (record { eq-mul = fraction-mul; lt-sub = lt-minus }) u (λ i. whole (k i)) (ascending k n)

@@ -80,8 +80,8 @@ module _ {F : Type 0} (arithmetic : Arithmetic F) (field : Field arithmetic) (u 
   abbrev lowest : ℕ → F
   lowest i = basis arithmetic u a 0 i
 
-  pub formula-is-recursion : Order arithmetic → Ascending arithmetic a → formula arithmetic u a ≡ recursion arithmetic u a
+  pub formula-in-field : Order arithmetic → Ascending arithmetic a → formula arithmetic u a ≡ recursion arithmetic u a
   unfolding formula basis sumOfTerms
-  formula-is-recursion order k =
+  formula-in-field order k =
       simp (order .le-is) (by-place arithmetic field (above arithmetic u a) (below arithmetic u a) (span arithmetic u a) 0 1 2 3 4 (place arithmetic order u a k))
       ∙ sym (cubic-is arithmetic field (above arithmetic u a) (below arithmetic u a) (span arithmetic u a) 0 1 2 3 4 lowest)

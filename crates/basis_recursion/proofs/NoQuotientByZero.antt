@@ -27,9 +27,9 @@ module _ {F : Type 0} (arithmetic : Arithmetic F) (order : Order arithmetic) (no
       go true e = refl
       go false e = let w : arithmetic .lt u x ≡ true = order .lt-le u y x ahead (order .le-is y x ∙ ap not e) in cc
 
-  pub no-quotient-by-zero : (a : ℕ → F) → Ascending arithmetic a → formula (strict arithmetic) (some u) (λ i. some (a i)) ≡ some (formula arithmetic u a)
+  pub quotients-defined : (a : ℕ → F) → Ascending arithmetic a → formula (strict arithmetic) (some u) (λ i. some (a i)) ≡ some (formula arithmetic u a)
   unfolding sumOfTerms
-  no-quotient-by-zero a k = go (place arithmetic order u a k) refl refl refl refl refl
+  quotients-defined a k = go (place arithmetic order u a k) refl refl refl refl refl
     where
       past : (b : Bool) → arithmetic .lt u (a 4) ≡ b → arithmetic .le (a 4) u ≡ not b
       past b e = order .le-is (a 4) u ∙ ap not e

@@ -9,7 +9,7 @@ use lib.ListN.{replicate}
 use Rattle.float64.specs.Literals.{zeroLiteral}
 use Rattle.float64.specs.SignLaws.{nonnegOrNan-add}
 use Rattle.basis.specs.Binary64.{knots}
-use Rattle.basis.specs.NonNegativeLaws.{formula-nonnegOrNan, nonNegative}
+use Rattle.basis.specs.NonNegativeLaws.{formula-nonnegOrNan, non-negative}
 use Rattle.control_point.specs.Point.{isMade, isBorder, isOpening}
 use Rattle.control_point.specs.Sides.{Sides}
 use Rattle.control_point.specs.declared.refusal.Outcome.{Outcome}
@@ -163,7 +163,7 @@ point-knots e store good n =
 
     five : (centre : Float) (below above : List Float) → T (fits binary64 centre) → GoodEntries below → GoodEntries above
         → GoodBasis (fiveKnots centre below above)
-    five centre below above fit h k u = nonNegative u centre (first below) (second below) (first above) (second above) fit (h 0) (k 0)
+    five centre below above fit h k u = non-negative u centre (first below) (second below) (first above) (second above) fit (h 0) (k 0)
 
 -- ---- the rows of all listed points
 abbrev pub GoodAll : AllKnots → Type 0
