@@ -103,7 +103,7 @@ module _ (sides : Sides) (made : ℕ) (fits : made ≤ 128) (mirrored : Mirrored
       (over start travel h (sides start travel) refl _ (λ m interval l. known-onward (made - 1) travel watch m interval 1 l))
 
   -- ---- the search
-  known-connectable : (first other : ℕ) (d : TmeshDirection) → first < made → other < made → KnownOutcome (connectable sides made first other d)
+  pub known-connectable : (first other : ℕ) (d : TmeshDirection) → first < made → other < made → KnownOutcome (connectable sides made first other d)
   unfolding connectable
   known-connectable first other d h l =
       rw (made-isMade made first fits h, made-isMade made other fits l)

@@ -6,8 +6,7 @@ use lib.Dec.{ltb, eqb}
 use lib.Ieee.{Float}
 use lib.ListN.{length}
 use Rattle.control_point.specs.Connect.{connectable}
-use Rattle.control_point.specs.Direction.{flipOf}
-use Rattle.control_point.specs.Point.{sideOf, isBorder, isMade, isOpening}
+use Rattle.control_point.specs.Point.{sideOf, isBorder, isMade}
 use Rattle.control_point.specs.PointLaws.{isMade-made, isMade-room, made-isMade}
 use Rattle.control_point.specs.Told.{outcomeNumber}
 use Rattle.control_point.specs.declared.refusal.Outcome.{Outcome}
@@ -22,8 +21,8 @@ use Rattle.store.specs.Store.{storeSides, storePoint, linked, settled, opened, 
 use Rattle.store.specs.StoreLaws.{side-read}
 use Rattle.store.specs.declared.store.Changed.{Changed}
 use Rattle.store.specs.declared.store.Store.{Store}
-use Rattle.mirror.specs.BoolLaws.{cond-case}
-use Rattle.mirror.specs.Calls.{Call as Direct, make-loose, connect, remove-connection, remove-edge-condition, set-edge-con-weight, set-knot-coordinates, navigate-until-con, read-side, read-point, sideNumber, pointNumber, callNumber}
+use Rattle.mirror.specs.BoolLaws.{cond-case, and-both}
+use Rattle.mirror.specs.Calls.{Call as Direct, make-loose, connect, remove-connection, remove-edge-condition, set-edge-con-weight, set-knot-coordinates, navigate-until-con, read-side, read-point, callNumber}
 use Rattle.mirror.specs.Mirror.{Sound}
 use Rattle.insertion.specs.Insert.{answerNumber}
 use Rattle.insertion.specs.declared.insertion.InsertAnswer.{InsertAnswer}
@@ -40,7 +39,7 @@ use Rattle.surface.specs.declared.evaluation.EvaluationAnswer.the-variants.{Is,
 use Rattle.calls.specs.Calls.{insertion, evaluation}
 use Rattle.soundness.specs.EveryMapProof.{of-sound}
 use Rattle.soundness.specs.InsertionLaws.{KnownAnswer}
-use Rattle.soundness.specs.KnownLaws.{MetOutcome, KnownWalk, met-known, known-walk}
+use Rattle.soundness.specs.KnownLaws.{MetOutcome, KnownOutcome, KnownWalk, met-known, known-walk, known-connectable}
 use Rattle.soundness.specs.KnownRayLaws.{KnownRay, known-ray, known-knots}
 use Rattle.soundness.specs.MapCalls.{MapCall, entry, generate-knot-vectors, point-knot-vectors, cast-ray, direct, numberTo, givenMade, pointsMade}
 use Rattle.soundness.specs.MapLaws.{SoundMesh, KnownEvaluation, insertion-known, insertion-seeks, generation-known, evaluation-known}
@@ -59,6 +58,10 @@ evaluation-not (NoValue refusal) known = met-known refusal known
 outcome-not : (outcome : Outcome) → MetOutcome outcome → eqb (outcomeNumber outcome) 11 ≡ false
 outcome-not Done known = refl
 outcome-not (Refused refusal) known = met-known refusal known
+
+connected-not : (outcome : Outcome) → KnownOutcome outcome → eqb (outcomeNumber outcome) 11 ≡ false
+connected-not Done known = refl
+connected-not (Refused refusal) known = known
 
 walk-not : (made : ℕ) (walk : Walk) → KnownWalk made walk → eqb (walkNumber walk) 11 ≡ false
 walk-not made (Reached n sum moves) known = refl
@@ -104,17 +107,14 @@ module _ (store : Store) (sound : Sound store) where
   not-weighted n d weight (Border old) = refl
   not-weighted n d weight Opening = refl
 
-  connect-unless : (first other : ℕ) (d : TmeshDirection)
-      → Unless (isMade (store .made) first && isMade (store .made) other) (outcomeNumber (connectable (storeSides store) (store .made) first other d))
+  connect-unless : (first other : ℕ) (d : TmeshDirection) (b : Bool) → (isMade (store .made) first && isMade (store .made) other) ≡ b
+      → Unless b (outcomeNumber (connectable (storeSides store) (store .made) first other d))
   unfolding connectable
-  connect-unless first other d =
-      first-test outcomeNumber (isMade (store .made) first && isMade (store .made) other) _ _ refl
-      (λ h.
-      cond-case (eqb first other) (λ (outcome : Outcome). eqb (outcomeNumber outcome) 11 ≡ false) _ _ (λ s. refl)
-      (λ s.
-      cond-case (isOpening (storeSides store first d) && isOpening (storeSides store other (flipOf d))) (λ (outcome : Outcome). eqb (outcomeNumber outcome) 11 ≡ false) _ _
-      (λ o. refl)
-      (λ o. refl)))
+  connect-unless first other d true h =
+      let both = and-both (isMade (store .made) first) (isMade (store .made) other) h in
+      connected-not (connectable (storeSides store) (store .made) first other d)
+      (known-connectable (storeSides store) (store .made) (sound .fits) (sound .mirrored) first other d (isMade-made (store .made) first (both .0)) (isMade-made (store .made) other (both .1)))
+  connect-unless first other d false h = rw h
 
   walk-unless : (n : ℕ) (travel watch : TmeshDirection) (b : Bool) → isMade (store .made) n ≡ b
       → Unless b (walkNumber (walkOf (storeSides store) (store .made) n travel watch))
@@ -137,13 +137,21 @@ module _ (store : Store) (sound : Sound store) where
   knots-unless e n true h = outcome-not (pointKnotVectors e store n .outcome) (known-knots e store sound n (isMade-made (store .made) n h))
   knots-unless e n false h = rw h
 
+  side-unless : (n : ℕ) (d : TmeshDirection) (b : Bool) → isMade (store .made) n ≡ b → Unless b (callNumber store (read-side n d))
+  side-unless n d true h = rw h
+  side-unless n d false h = rw h
+
+  point-unless : (n : ℕ) (b : Bool) → isMade (store .made) n ≡ b → Unless b (callNumber store (read-point n))
+  point-unless n true h = rw h
+  point-unless n false h = rw h
+
   direct-unless : (call : Direct) → Unless (givenMade store call) (callNumber store call)
   unfolding makeLoose connectPoints removeConnection removeEdgeCondition setEdgeConWeight setKnotCoordinates
   direct-unless (make-loose weight) = cond-case (ltb (store .made) 128) NotEleven _ _ (λ h. refl) (λ h. refl)
   direct-unless (connect first other d interval) =
       ap (λ (number : ℕ). eqb number 11)
       (settled-number (connectable (storeSides store) (store .made) first other d) (linked store first other d interval) store)
-      ∙ connect-unless first other d
+      ∙ connect-unless first other d (isMade (store .made) first && isMade (store .made) other) refl
   direct-unless (remove-connection n d) =
       first-test changedNumber (isMade (store .made) n) _ _ refl (λ h. not-opened n d h (sideOf (storePoint store n) d) refl)
   direct-unless (remove-edge-condition n d) =
@@ -155,8 +163,8 @@ module _ (store : Store) (sound : Sound store) where
       first-test changedNumber (isMade (store .made) n) _ _ refl
       (λ h. cond-case (allBorders (storePoint store n)) NotEleven _ _ (λ b. refl) (λ b. refl))
   direct-unless (navigate-until-con start travel watch) = walk-unless start travel watch (isMade (store .made) start) refl
-  direct-unless (read-side n d) = first-test sideNumber (isMade (store .made) n) _ _ refl (λ h. refl)
-  direct-unless (read-point n) = first-test pointNumber (isMade (store .made) n) _ _ refl (λ h. refl)
+  direct-unless (read-side n d) = side-unless n d (isMade (store .made) n) refl
+  direct-unless (read-point n) = point-unless n (isMade (store .made) n) refl
 
 unless-unmade : (map : Tmesh) → SoundMesh (map .mesh) → (e : Float) (call : MapCall) → Unless (pointsMade map call) (numberTo e map call)
 unless-unmade map sound e (entry (insertion con d ratio position)) =

@@ -13,7 +13,7 @@ use Rattle.t_mesh.specs.Insertion.{isDone, keptAfter, addControlPoint}
 use Rattle.t_mesh.specs.Tmesh.{storeOf, isListed}
 use Rattle.t_mesh.specs.declared.t_mesh.Tmesh.{Tmesh}
 use Rattle.calls.specs.Calls.{insertion, evaluation}
-use Rattle.mirror.specs.BoolLaws.{cond-case}
+use Rattle.mirror.specs.BoolLaws.{both-ways, cond-case}
 use Rattle.soundness.specs.MapCalls.{entry, generate-knot-vectors, point-knot-vectors, cast-ray, direct}
 use Rattle.soundness.specs.Theorems.{OnlyDoneDrops}
 
@@ -28,12 +28,17 @@ kept-built : (map : Tmesh) (rows : AllKnots) → map .kept ≡ true → keeping 
 kept-built map (all rows) k = refl
 kept-built map (none refusal) k = k
 
+-- kept, and the same
+abbrev Keeps : Tmesh → Generated → Type 0
+Keeps map generated = (generated .map .kept ≡ true) × (generated .map .knots ≡ map .knots)
+
 pub only-done-drops : OnlyDoneDrops
 unfolding addControlPoint subsOf withKnots generateKnotVectors
-only-done-drops e map (entry (insertion con d ratio position)) k done = kept-after (map .kept) (insertPoint e (storeOf map) (isListed map con) con d ratio .answer) k done
+only-done-drops e map (entry (insertion con d ratio position)) k done =
+    (kept-after (map .kept) (insertPoint e (storeOf map) (isListed map con) con d ratio .answer) k done, λ other. refl)
 only-done-drops e map (entry (evaluation s t)) k done =
-    cond-case (map .kept) (λ (generated : Generated). generated .map .kept ≡ true) _ _ (λ _. k) (λ _. kept-built map (allKnots e map) k)
-only-done-drops e map generate-knot-vectors k done = kept-built map (allKnots e map) k
-only-done-drops e map (point-knot-vectors n) k done = k
-only-done-drops e map (cast-ray n d buffer) k done = k
-only-done-drops e map (direct call) k done = k
+    let keeps = cond-case (map .kept) (Keeps map) _ _ (λ _. (k, refl)) (λ dropped. both-ways (map .kept) k dropped) in (keeps .0, λ other. keeps .1)
+only-done-drops e map generate-knot-vectors k done = (kept-built map (allKnots e map) k, λ other. absurd (other refl))
+only-done-drops e map (point-knot-vectors n) k done = (k, λ other. refl)
+only-done-drops e map (cast-ray n d buffer) k done = (k, λ other. refl)
+only-done-drops e map (direct call) k done = (k, λ other. refl)

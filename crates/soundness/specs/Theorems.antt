@@ -37,7 +37,7 @@ use Rattle.t_mesh.specs.declared.t_mesh.Tmesh.{Tmesh}
 use Rattle.surface.specs.Evaluation.{subsOf}
 use Rattle.surface.specs.declared.evaluation.EvaluationAnswer.the-variants.{Refused as NoValue}
 use Rattle.census.specs.Census.{countBelow, hasLink, countsOf}
-use Rattle.soundness.specs.MapCalls.{MapCall, direct, afterCall, mapAfterAll, directs, addsPoint, numberTo, pointsMade}
+use Rattle.soundness.specs.MapCalls.{MapCall, generate-knot-vectors, direct, afterCall, mapAfterAll, directs, addsPoint, numberTo, pointsMade}
 
 -- ---- the maps
 -- what holds of the map after every list of calls on every fresh one
@@ -88,9 +88,14 @@ RefusedKeepsMap =
     (e : Float) (map : Tmesh) (call : MapCall) → (numberTo e map call ≡ 0 → ⊥) → (numberTo e map call ≡ 8 → ⊥) → afterCall e map call ≡ map
 
 -- ---- the kept knots
--- On every map: only an insertion done drops the kept knots. Every other call, refused or not, leaves them kept.
+-- On every map: only an insertion done drops the kept knots. Every other call, refused or not, leaves knots kept, and they are those kept
+-- before unless it is the building of all knots.
 abbrev pub OnlyDoneDrops : Type 0
-OnlyDoneDrops = (e : Float) (map : Tmesh) (call : MapCall) → map .kept ≡ true → addsPoint e map call ≡ false → afterCall e map call .kept ≡ true
+OnlyDoneDrops =
+    (e : Float) (map : Tmesh) (call : MapCall)
+    → map .kept ≡ true
+    → addsPoint e map call ≡ false
+    → (afterCall e map call .kept ≡ true) × ((call ≡ generate-knot-vectors → ⊥) → afterCall e map call .knots ≡ map .knots)
 
 -- ---- the connects of an insertion
 -- a side of p that joins another point does so by a connect that is done
