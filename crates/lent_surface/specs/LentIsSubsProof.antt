@@ -22,8 +22,8 @@ unfolding subsOf lendOf
 whatever e map s t =
     ap (λ (x : EvaluationAnswer). record { answer = x; map = withKnots e map .map }) (answer-by (withKnots e map .outcome) (withKnots e map .map) s t)
 
-pub lendingIsSubs : LendingIsSubs
-lendingIsSubs e map s t =
+pub lending-is-subs : LendingIsSubs
+lending-is-subs e map s t =
     record {
       lent-subs = whatever e map s t;
       lent-value-is = λ done.
