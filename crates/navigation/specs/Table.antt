@@ -4,10 +4,12 @@ use mathlib.Core.Bool.{not, cond}
 use lib.Ieee.{Float, binary64, add}
 use Rattle.control_point.specs.Point.{isMade, isLink, isBorder, isOpening}
 use Rattle.control_point.specs.Sides.{Sides, linkedOf, intervalOf}
-use Rattle.control_point.specs.Told.{Told, refusedBy, unless}
+use Rattle.control_point.specs.Told.{Told, refusedBy, unless, refusalTold}
 use Rattle.control_point.specs.declared.t_mesh_control_point.Side.{Side}
 use Rattle.control_point.specs.declared.t_mesh_direction.TmeshDirection.{TmeshDirection}
 use Rattle.navigation.specs.Walk.{reachedTold}
+use Rattle.navigation.specs.declared.walk.Walk.{Walk}
+use Rattle.navigation.specs.declared.walk.Walk.the-variants.{Reached, Refused}
 
 -- a step over a side
 abbrev pub stepTable : Side → (ℕ → Float → Told) → Told
@@ -28,3 +30,8 @@ onwardTable (suc left) sides made travel watch at sum moves =
 unfoldable pub walkTable : Sides → ℕ → ℕ → TmeshDirection → TmeshDirection → Told
 walkTable sides made start travel watch =
     unless 11 (isMade made start) (stepTable (sides start travel) (λ n interval. onwardTable (made - 1) sides made travel watch n interval 1))
+
+-- in the table of a call that walks: a refused walk tells its number, a reached one goes on from its point with its sum
+abbrev pub walkedTable : Walk → (ℕ → Float → Told) → Told
+walkedTable (Reached n sum moves) next = next n sum
+walkedTable (Refused refusal) next = refusalTold refusal

@@ -1,2 +1,4 @@
 pub mod Search
+pub mod Table
 pub mod SearchLaws
+pub mod TableLaws

@@ -3,6 +3,7 @@
 -- A point never made is 11 where the search arrives at it. After a taken side (5) the search goes on, with no stop test in that round.
 use Prim.Native.Nat.{ℕ, zero, suc}
 use mathlib.Core.Bool.{cond, _||_}
+use mathlib.Core.List.{[], _∷_}
 use lib.Dec.{eqb}
 use lib.Ieee.{Float, binary64, add, sub, lt}
 use Rattle.float64.specs.Literals.{zeroLiteral}
@@ -12,6 +13,7 @@ use Rattle.control_point.specs.Point.{isMade, isLink, sideRefusal}
 use Rattle.control_point.specs.Refusal.{refusalNumber}
 use Rattle.control_point.specs.Sides.{Sides}
 use Rattle.control_point.specs.Small.{small}
+use Rattle.control_point.specs.Told.{Told, natural, float, tells, refusalTold}
 use Rattle.navigation.specs.Walk.{walkOf}
 use Rattle.control_point.specs.declared.refusal.Outcome.{Outcome}
 use Rattle.control_point.specs.declared.refusal.Outcome.the-variants.{Done, Refused}
@@ -25,6 +27,13 @@ use Rattle.search.specs.declared.search.Found.{Found}
 use Rattle.search.specs.declared.search.Found.the-variants.{At, Nothing, Failed}
 use Rattle.search.specs.declared.search.Judged.{Judged}
 use Rattle.search.specs.declared.search.Judged.the-variants.{On, Here, Ends, Fails}
+
+-- ---- the answer
+-- what it tells: the point to connect to and the interval, no value where there is none, or the refusal's number
+abbrev pub foundTold : Found → Told
+foundTold (At n interval) = tells (natural n ∷ (float interval ∷ []))
+foundTold Nothing = tells []
+foundTold (Failed refusal) = refusalTold refusal
 
 -- ---- at a point that the search has moved to
 -- connecting p to it: where that gives 5, go on; another refusal fails

@@ -3,7 +3,8 @@ ghost use mathlib.Core.Path.{_≡_};
 ghost use lib.Ieee.{binary64, ofBits};
 ghost use Rattle.control_point.specs.Connect.{connectable};
 ghost use Rattle.control_point.specs.Sides.{lentSides};
-ghost use Rattle.search.specs.Search.{afterConnecting, judgeAt, seekFrom, findInferredConnection};
+ghost use Rattle.search.specs.Search.{foundTold, afterConnecting, judgeAt, seekFrom, findInferredConnection};
+ghost use Rattle.search.specs.Table.{searchTable};
 use control_point::refusal::Outcome;
 use control_point::refusal::Refusal;
 use control_point::sides::side_at;
@@ -172,7 +173,8 @@ pub fn find_inferred_connection<'a>(
     p: u8,
     f: TmeshDirection,
 ) -> Found
-    ensures { λ r. ⌜ r ≡ findInferredConnection closeness (lentSides (now (kinds .entry)) (now (numbers .entry)) (now (intervals .entry))) made p f ⌝ }
+    ensures is { λ r. ⌜ r ≡ findInferredConnection closeness (lentSides (now (kinds .entry)) (now (numbers .entry)) (now (intervals .entry))) made p f ⌝ }
+    ensures told { λ r. ⌜ foundTold r ≡ searchTable closeness (lentSides (now (kinds .entry)) (now (numbers .entry)) (now (intervals .entry))) made p f ⌝ }
 {
     match navigate(kinds, numbers, intervals, made, p, f.clockwise(), f) {
         Walk::Refused(refusal) => Found::Failed(refusal),

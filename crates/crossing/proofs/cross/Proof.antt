@@ -47,7 +47,7 @@ sought c =
     let a = begun r .args in
     new-sought (a .closeness) (sides r) (a .made) (a .con) (a .p) (a .f) (r .side-at .result) (sym (r .side-at .ensures)) (u .before .before .before .before .match .keys2)
     ∙ ap (λ (after : Sides). soughtSide (findInferredConnection (a .closeness) after (a .made) (a .p) (a .f))) (sym (u .put-side2 .ensures .1))
-    ∙ ap soughtSide (sym (c .find-inferred-connection .ensures))
+    ∙ ap soughtSide (sym (c .find-inferred-connection .ensures .0))
 
 side-at-requires : tie.Need-side-at-requires
 side-at-requires c κs = search needs
@@ -90,8 +90,8 @@ link-requires c κs =
       (
         b .pre .0,
         (
-          found-room (a .closeness) _ (a .made) (a .p) (a .f) (u .find-inferred-connection .result) _ _ (u .find-inferred-connection .ensures) (g .found .given .1),
-          found-apart (a .closeness) _ (a .made) (a .p) (a .f) (u .find-inferred-connection .result) _ _ (u .find-inferred-connection .ensures) (g .found .given .1),
+          found-room (a .closeness) _ (a .made) (a .p) (a .f) (u .find-inferred-connection .result) _ _ (u .find-inferred-connection .ensures .0) (g .found .given .1),
+          found-apart (a .closeness) _ (a .made) (a .p) (a .f) (u .find-inferred-connection .result) _ _ (u .find-inferred-connection .ensures .0) (g .found .given .1),
         ),
       ),
       (o .put-side2 .ensures .0, b .pre .1 .1),

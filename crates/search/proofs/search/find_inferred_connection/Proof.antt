@@ -6,12 +6,15 @@ use denote.Ref.{now}
 use lib.Ieee.{Float, binary64, ofBits}
 use Rattle.control_point.specs.Direction.{clockwiseOf, antiClockwiseOf}
 use Rattle.control_point.specs.Sides.{Sides, lentSides}
+use Rattle.control_point.specs.ToldLaws.{beside}
 use Rattle.navigation.specs.Walk.{walkOf}
 use Rattle.control_point.specs.declared.t_mesh_direction.TmeshDirection.{TmeshDirection}
 use Rattle.navigation.specs.declared.walk.Walk.{Walk}
 use Rattle.search.proofs.search.find_inferred_connection.Statement.{statement}
 use Rattle.search.proofs.search.find_inferred_connection.Tie as tie
-use Rattle.search.specs.Search.{walked, seekFrom, findInferredConnection}
+use Rattle.search.specs.Search.{foundTold, walked, seekFrom, findInferredConnection}
+use Rattle.search.specs.Table.{searchTable}
+use Rattle.search.specs.TableLaws.{search-told}
 use Rattle.search.specs.declared.search.Found.{Found}
 
 abbrev lent : tie.Start → Sides
@@ -50,6 +53,10 @@ second c =
     (ap (λ (walk : Walk). walked walk (sought st (x .0 .1 .0)))
     (sym (c .navigate2 .ensures ∙ ap (walkOf (lent st) (st .args .made) (x .0 .0) (st .args .f)) (c .before .anti-clockwise .ensures))))
 
+-- both clauses, by the equation
+promised : (s : tie.Start) (r : Found) → r ≡ whole s → (r ≡ whole s) × (foundTold r ≡ searchTable (s .args .closeness) (lent s) (s .args .made) (s .args .p) (s .args .f))
+promised s r = let a = s .args in beside foundTold _ _ (search-told (a .closeness) (lent s) (a .made) (a .p) (a .f)) r
+
 clockwise-requires : tie.Need-clockwise-requires
 clockwise-requires c κs = search needs
 
@@ -78,13 +85,17 @@ seek-requires : tie.Need-seek-requires
 seek-requires c κs = search needs
 
 returns : tie.Need-returns
-returns c = sym (first (c .before .before .before) ∙ rw (c .before .refusal .given .1))
+returns c = let n = c .before .before .before in promised (n .before .before) _ (sym (first n ∙ rw (c .before .refusal .given .1)))
 
 returns-2 : tie.Need-returns-2
-returns-2 c = sym (second (c .before .before .before) ∙ rw (c .before .refusal2 .given .1))
+returns-2 c =
+    let n = c .before .before .before in
+    promised (n .before .before .before .before .before .before .before) _ (sym (second n ∙ rw (c .before .refusal2 .given .1)))
 
 returns-3 : tie.Need-returns-3
-returns-3 c = c .seek .ensures ∙ sym (second (c .before .before .before .before) ∙ rw (c .before .before .start .given .1))
+returns-3 c =
+    let n = c .before .before .before .before in
+    promised (n .before .before .before .before .before .before .before) _ (c .seek .ensures ∙ sym (second n ∙ rw (c .before .before .start .given .1)))
 
 pub find-inferred-connection-spec : {M : Type 1} → statement M
 find-inferred-connection-spec =
