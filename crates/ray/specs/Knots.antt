@@ -3,11 +3,12 @@
 -- are kept as computed. e is the closeness.
 use Prim.Native.Nat.{ℕ}
 use mathlib.Core.Bool.{cond}
-use mathlib.Core.List.{List, [], _∷_}
+use mathlib.Core.List.{List, [], _∷_, _++_}
 use lib.Ieee.{Float, nan, binary64, add, sub}
 use lib.ListN.{getD, replicate}
 use Rattle.control_point.specs.Point.{isMade}
 use Rattle.control_point.specs.Sides.{Sides}
+use Rattle.control_point.specs.Told.{Told, tells, refusedOr}
 use Rattle.control_point.specs.declared.refusal.Outcome.{Outcome}
 use Rattle.control_point.specs.declared.refusal.Outcome.the-variants.{Done, Refused}
 use Rattle.control_point.specs.declared.refusal.Refusal.the-variants.{NoPoint}
@@ -16,7 +17,7 @@ use Rattle.control_point.specs.declared.t_mesh_direction.TmeshDirection.the-var
 use Rattle.store.specs.Store.{storeSides, storePoint}
 use Rattle.store.specs.declared.store.Store.{Store}
 use Rattle.float64.specs.Literals.{zeroLiteral}
-use Rattle.ray.specs.Ray.{Ray, entries, refused, rayOf, castOf}
+use Rattle.ray.specs.Ray.{Ray, entries, refused, rayOf, castOf, floats}
 use Rattle.ray.specs.declared.knots.KnotsAnswer.{KnotsAnswer}
 use Rattle.ray.specs.declared.knots.TwoEntries.{TwoEntries}
 
@@ -65,6 +66,10 @@ pointKnotVectors e store n =
     cond (isMade (store .made) n)
     (knotsAt e (storeSides store) (store .made) n (storePoint store n .s) (storePoint store n .t))
     (noKnots (Refused NoPoint))
+
+-- what it tells: the five s knots and then the five t knots, or the refusal's number
+abbrev pub knotsTold : KnotsAnswer → Told
+knotsTold answer = refusedOr (answer .outcome) (tells (floats (answer .knots .s ++ answer .knots .t)))
 
 -- ---- a ray of two entries as code holds it
 -- by its cast

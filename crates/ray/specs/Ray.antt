@@ -2,11 +2,12 @@
 -- 11, before all else. A refused ray leaves the buffer all 0.0. e is the closeness, d the direction.
 use Prim.Native.Nat.{ℕ, zero, suc}
 use mathlib.Core.Bool.{false, cond}
-use mathlib.Core.List.{List, [], _∷_}
+use mathlib.Core.List.{List, [], _∷_, map}
 use lib.Ieee.{Float}
 use lib.ListN.{length, replicate}
 use Rattle.control_point.specs.Point.{isMade}
 use Rattle.control_point.specs.Sides.{Sides}
+use Rattle.control_point.specs.Told.{Told, Value, float, tells, refusedOr}
 use Rattle.control_point.specs.declared.refusal.Outcome.{Outcome}
 use Rattle.control_point.specs.declared.refusal.Outcome.the-variants.{Done, Refused}
 use Rattle.control_point.specs.declared.refusal.Refusal.{Refusal}
@@ -57,3 +58,10 @@ castOver e sides made start d buffer = castOf (rayOf e sides made start d (lengt
 -- on a store
 abbrev pub castRay : Float → Store → ℕ → TmeshDirection → List Float → Outcome × List Float
 castRay e store start d buffer = castOver e (storeSides store) (store .made) start d buffer
+
+-- what it tells: the entries that stand in the buffer, or the refusal's number
+abbrev pub floats : List Float → List Value
+floats values = map float values
+
+abbrev pub castTold : Outcome × List Float → Told
+castTold cast = refusedOr (cast .0) (tells (floats (cast .1)))

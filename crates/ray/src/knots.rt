@@ -1,7 +1,8 @@
 // The knots of a point.
 ghost use mathlib.Core.Path.{_≡_};
 ghost use Rattle.control_point.specs.Sides.{lentSides};
-ghost use Rattle.ray.specs.Knots.{twoEntries, bothOf, fiveKnots, knotsAbout, inTurn, noKnots, knotsAt, pointKnotVectors};
+ghost use Rattle.ray.specs.Knots.{twoEntries, bothOf, fiveKnots, knotsAbout, inTurn, noKnots, knotsAt, pointKnotVectors, knotsTold};
+ghost use Rattle.ray.specs.Table.{knotsTable};
 use crate::ray::cast;
 use control_point::refusal::Outcome;
 use control_point::refusal::Refusal;
@@ -159,7 +160,8 @@ pub fn knots_at<'a>(
 
 // The same on a store.
 pub fn point_knot_vectors(closeness: f64, store: Store, n: u8) -> KnotsAnswer
-    ensures { λ r. ⌜ r ≡ pointKnotVectors closeness store n ⌝ }
+    ensures is { λ r. ⌜ r ≡ pointKnotVectors closeness store n ⌝ }
+    ensures told { λ r. ⌜ knotsTold r ≡ knotsTable closeness store n ⌝ }
 {
     let made = store.made;
     if !is_made(made, n) {

@@ -3,7 +3,8 @@ ghost use mathlib.Core.Path.{_≡_};
 ghost use lib.ListN.{length, replicate};
 ghost use Rattle.control_point.specs.Sides.{lentSides};
 ghost use Rattle.float64.specs.Literals.{zeroLiteral};
-ghost use Rattle.ray.specs.Ray.{castOver, castRay};
+ghost use Rattle.ray.specs.Ray.{castOver, castRay, castTold};
+ghost use Rattle.ray.specs.Table.{castTable};
 use control_point::refusal::Outcome;
 use control_point::refusal::Refusal;
 use control_point::sides::fill;
@@ -68,7 +69,8 @@ pub fn cast_ray(
     direction: TmeshDirection,
     buffer: &mut [f64],
 ) -> Outcome
-    ensures { λ r. ⌜ (r, now (buffer .exit)) ≡ castRay closeness store start direction (now (buffer .entry)) ⌝ }
+    ensures is { λ r. ⌜ (r, now (buffer .exit)) ≡ castRay closeness store start direction (now (buffer .entry)) ⌝ }
+    ensures told { λ r. ⌜ castTold (r, now (buffer .exit)) ≡ castTable closeness store start direction (length (now (buffer .entry))) ⌝ }
 {
     let made = store.made;
     let points = store.points;

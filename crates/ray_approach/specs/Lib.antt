@@ -1,2 +1,4 @@
 pub mod Approach
+pub mod Table
 pub mod ApproachLaws
+pub mod TableLaws

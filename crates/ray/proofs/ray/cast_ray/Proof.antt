@@ -3,7 +3,9 @@ use borrow.Author.Needs.{needs}
 use denote.Ref.{now}
 use mathlib.Core.Path.{_∙_, ap}
 use Rattle.control_point.specs.Sides.{Sides}
-use Rattle.ray.specs.Ray.{castOver}
+use Rattle.control_point.specs.ToldLaws.{beside}
+use Rattle.ray.specs.Ray.{castOver, castTold}
+use Rattle.ray.specs.TableLaws.{cast-told}
 use Rattle.ray.proofs.ray.cast_ray.Statement.{statement}
 use Rattle.ray.proofs.ray.cast_ray.Tie as tie
 
@@ -20,8 +22,9 @@ returns : tie.Need-returns
 returns c =
     let u = c .before .before .before .before .before .before .before in
     let a = u .before .before .before .before .before .before .args in
-    c .before .before .cast .ensures
-    ∙ ap (λ (sides : Sides). castOver (a .closeness) sides (a .store .made) (a .start) (a .direction) (now (a .buffer))) (u .fill .ensures .1)
+    beside castTold _ _ (cast-told (a .closeness) (a .store) (a .start) (a .direction) (now (a .buffer))) _
+    (c .before .before .cast .ensures
+    ∙ ap (λ (sides : Sides). castOver (a .closeness) sides (a .store .made) (a .start) (a .direction) (now (a .buffer))) (u .fill .ensures .1))
 
 pub cast-ray-spec : {M : Type 1} → statement M
 cast-ray-spec = tie.close (tie.spec fill-requires cast-requires same-length returns)
