@@ -1,2 +1,4 @@
 pub mod Knots
+pub mod Table
 pub mod KnotsLaws
+pub mod TableLaws

@@ -2,9 +2,11 @@
 ghost use mathlib.Core.Path.{_≡_};
 ghost use Rattle.control_point.specs.Sides.{lentSides};
 ghost use Rattle.control_point.specs.Small.{millionth};
+ghost use Rattle.control_point.specs.Told.{outcomeTold};
 ghost use Rattle.store.specs.Store.{storeSides};
 ghost use Rattle.t_mesh.specs.Tmesh.{storeOf};
 ghost use Rattle.knot_vectors.specs.Knots.{allKnots, keptBy, heldKnots, generateKnotVectors};
+ghost use Rattle.knot_vectors.specs.Table.{generatedTable};
 use control_point::refusal::Outcome;
 use control_point::sides::fill;
 use control_point::small::closeness;
@@ -83,7 +85,8 @@ fn listed_knots<'a>(
 }
 
 pub fn generate_knot_vectors(mut map: Tmesh) -> Generated
-    ensures { λ r. ⌜ r ≡ generateKnotVectors millionth map ⌝ }
+    ensures is { λ r. ⌜ r ≡ generateKnotVectors millionth map ⌝ }
+    ensures told { λ r. ⌜ outcomeTold (r .outcome) ≡ generatedTable millionth map ⌝ }
 {
     let points = map.mesh.points;
     let mut kinds = [0u8; 512];

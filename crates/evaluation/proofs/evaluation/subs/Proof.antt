@@ -86,7 +86,7 @@ returns c =
     beside (λ (x : Evaluated). evaluationTold (x .answer)) _ _ (subs-told millionth (a .t1) (a .s) (a .t)) _
     (evaluated-ready millionth (a .t1) (a .s) (a .t) o m _ (c .answer-by .result)
     (⊎-elim
-    (λ w. ready-built millionth (a .t1) o m (w .1 .result) (w .1 .ensures) (not-true _ (w .0 .taken)) (w .4) (w .3))
+    (λ w. ready-built millionth (a .t1) o m (w .1 .result) (w .1 .ensures .0) (not-true _ (w .0 .taken)) (w .4) (w .3))
     (λ w. ready-kept millionth (a .t1) o m (not-false _ (w .0 .left)) (w .2) (w .1))
     (j .if1 .came))
     (sums-end m (a .s) (a .t) (k .n) (k .x) (k .y) (k .z) (k .weight) h (k .inv .1))
