@@ -1,1 +1,2 @@
 pub mod SetPoint
+pub mod SetPointLaws

@@ -9,11 +9,13 @@ use lib.Ieee.{binary64, ofBits}
 use lib.ListN.{length}
 use Rattle.big_endian.specs.Written.{written}
 use Rattle.control_point.specs.Small.{millionth}
+use Rattle.control_point.specs.Told.{Told, unless}
 use Rattle.control_point.specs.declared.refusal.Refusal.the-variants.{Short}
 use Rattle.surface.specs.Evaluation.{evaluationNumber}
 use Rattle.surface.specs.declared.evaluation.EvaluationAnswer.{EvaluationAnswer}
 use Rattle.surface.specs.declared.evaluation.EvaluationAnswer.the-variants.{Is, Refused}
 use Rattle.map_file.specs.Run.{fileSetPoint}
+use Rattle.map_file.specs.Table.{fileSetPointTable}
 use Rattle.value_bytes.specs.Value.{valueBytes, bytesOfValue}
 
 -- what the call finds, in a buffer of a length
@@ -32,3 +34,7 @@ hostNumber file s t out = evaluationNumber (hostAnswer file s t (length out))
 
 abbrev pub hostBuffer : List ℕ → ℕ → ℕ → List ℕ → List ℕ
 hostBuffer file s t out = bufferAfter (hostAnswer file s t (length out)) out
+
+-- the table of the call, with a buffer of a length: 16, then the file's table: 12, 13, 14, the evaluation's refusal, 15
+abbrev pub hostTable : List ℕ → ℕ → ℕ → ℕ → Told
+hostTable file s t room = unless 16 (leb valueBytes room) (fileSetPointTable millionth file (ofBits binary64 s) (ofBits binary64 t))

@@ -1,6 +1,7 @@
 // The call of a C host: the bytes of a map file, s and t as bits, and a buffer that receives the value. include/gatemap_host.h says it in C.
 ghost use mathlib.Core.Path.{_≡_};
-ghost use Rattle.gatemap_host.specs.SetPoint.{hostAnswer, hostNumber, hostBuffer};
+ghost use lib.ListN.{length};
+ghost use Rattle.gatemap_host.specs.SetPoint.{hostAnswer, hostNumber, hostBuffer, hostTable};
 use control_point::refusal::Refusal;
 use float64::from_bits;
 use map_file::run::file_set_point;
@@ -22,7 +23,9 @@ fn host_answer(file: &[u8], s: u64, t: u64, room: usize) -> EvaluationAnswer
 
 #[no_mangle]
 pub extern "C" fn gatemap_set_point(file: &[u8], s: u64, t: u64, out: &mut [u8]) -> u64
-    ensures { λ r. ⌜ (r ≡ hostNumber (now (file .entry)) s t (now (out .entry))) × (now (out .exit) ≡ hostBuffer (now (file .entry)) s t (now (out .entry))) ⌝ }
+    ensures number { λ r. ⌜ r ≡ hostNumber (now (file .entry)) s t (now (out .entry)) ⌝ }
+    ensures buffer { λ _. ⌜ now (out .exit) ≡ hostBuffer (now (file .entry)) s t (now (out .entry)) ⌝ }
+    ensures told { λ r. ⌜ r ≡ hostTable (now (file .entry)) s t (length (now (out .entry))) .number ⌝ }
 {
     match host_answer(file, s, t, out.len()) {
         EvaluationAnswer::Is(value) => {

@@ -1,3 +1,5 @@
 pub mod Run
+pub mod Table
 pub mod RunLaws
 pub mod LentRunLaws
+pub mod TableLaws

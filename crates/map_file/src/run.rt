@@ -4,8 +4,10 @@ ghost use Prim.Native.Nat.{_+_};
 ghost use Rattle.big_endian.specs.Written.{written};
 ghost use Rattle.control_point.specs.Small.{millionth};
 ghost use Rattle.map_format.specs.Format.{editBytes};
+ghost use Rattle.surface.specs.Evaluation.{evaluationTold};
 ghost use Rattle.map_file.specs.Run.{freshMap, fileMap, fileNumbers, asSetPoint, setPointAt, fileSetPoint};
 ghost use Rattle.map_file.specs.RunLaws.{SameEdits};
+ghost use Rattle.map_file.specs.Table.{mapSetPointTable, fileSetPointTable};
 use big_endian::float_at;
 use big_endian::put_byte;
 use control_point::small::closeness;
@@ -117,7 +119,8 @@ fn as_set_point(answer: EvaluationAnswer) -> EvaluationAnswer
 
 // The set-point of a map at (s, t).
 pub fn set_point_at(map: Tmesh, s: f64, t: f64) -> EvaluationAnswer
-    ensures { λ r. ⌜ r ≡ setPointAt millionth map s t ⌝ }
+    ensures is { λ r. ⌜ r ≡ setPointAt millionth map s t ⌝ }
+    ensures told { λ r. ⌜ evaluationTold r ≡ mapSetPointTable millionth map s t ⌝ }
 {
     let evaluated = subs(map, s, t);
     let answer = evaluated.answer;
@@ -126,7 +129,8 @@ pub fn set_point_at(map: Tmesh, s: f64, t: f64) -> EvaluationAnswer
 
 // The set-point of a file at (s, t), with no room for notes; a refused file runs nothing.
 pub fn file_set_point(file: &[u8], s: f64, t: f64) -> EvaluationAnswer
-    ensures { λ r. ⌜ r ≡ fileSetPoint millionth (now (file .entry)) s t ⌝ }
+    ensures is { λ r. ⌜ r ≡ fileSetPoint millionth (now (file .entry)) s t ⌝ }
+    ensures told { λ r. ⌜ evaluationTold r ≡ fileSetPointTable millionth (now (file .entry)) s t ⌝ }
 {
     let check = validate(file);
     match check {

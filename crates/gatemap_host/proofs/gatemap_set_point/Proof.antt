@@ -29,14 +29,14 @@ same-length c = search needs
 returns : tie.Need-returns
 returns c =
     let found = sym (c .before .before .before .before .before .before .before .host-answer .ensures) ∙ c .before .before .before .before .before .value .given .1 in
-    let both = host-with _ _ _ _ _ found in
-    (both .0, c .before .before .write-value .ensures ∙ both .1)
+    let gives = host-with _ _ _ _ _ found in
+    (gives .0, (c .before .before .write-value .ensures ∙ gives .1, gives .2))
 
 returns-2 : tie.Need-returns-2
 returns-2 c =
     let found = sym (c .before .before .before .before .host-answer .ensures) ∙ c .before .before .refusal .given .1 in
-    let both = host-with _ _ _ _ _ found in
-    (c .number .ensures ∙ both .0, both .1)
+    let gives = host-with _ _ _ _ _ found in
+    (c .number .ensures ∙ gives .0, (gives .1, c .number .ensures ∙ gives .2))
 
 pub gatemap-set-point-spec : {M : Type 1} → statement M
 gatemap-set-point-spec =

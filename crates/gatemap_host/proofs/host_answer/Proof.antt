@@ -20,7 +20,7 @@ file-set-point-requires c κs = search needs
 returns-2 : tie.Need-returns-2
 returns-2 c =
     let args = c .before .before .before .before .before .args in
-    c .file-set-point .ensures
+    c .file-set-point .ensures .0
     ∙ rw (c .before .from-bits2 .ensures, c .before .before .from-bits .ensures) (answer-of-file (args .file .now) (args .s) (args .t) (args .room) (c .before .before .before .if1 .left))
 
 pub host-answer-spec : {M : Type 1} → statement M

@@ -69,7 +69,7 @@ put-mid-line-requires : tie.Need-put-mid-line-requires
 put-mid-line-requires c κs =
     let open-put = c .before .before .before .before in
     let put = open-put .before .before .before .before .before in
-    fits-as (open-put .put-open-lines .result) _ _ (ap midLine (c .set-point-at .ensures))
+    fits-as (open-put .put-open-lines .result) _ _ (ap midLine (c .set-point-at .ensures .0))
     (fits-then (mid-text (put .before .before .before .before)) (room put) (opened open-put))
 
 same-length : tie.Need-same-length
@@ -80,7 +80,7 @@ returns c =
     let mid-put = c .before .before in
     let open-put = mid-put .before .before .before .before .before in
     put-then (counted (open-put .before .before .before .before .before))
-    (put-then (opened open-put) (put-as (ap midLine (mid-put .before .set-point-at .ensures)) (mid-put .put-mid-line .ensures)))
+    (put-then (opened open-put) (put-as (ap midLine (mid-put .before .set-point-at .ensures .0)) (mid-put .put-mid-line .ensures)))
 
 pub put-map-report-spec : {M : Type 1} → statement M
 put-map-report-spec =

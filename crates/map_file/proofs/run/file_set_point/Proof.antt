@@ -1,12 +1,23 @@
 -- `file_set_point` meets its contract: it is the set-point of the map that the run leaves, or the check's refusal.
 use borrow.Author.Needs.{needs}
-use mathlib.Core.Path.{_∙_, sym, ap}
+use mathlib.Core.Path.{_≡_, _∙_, sym, ap}
 use Rattle.control_point.specs.Small.{millionth}
+use Rattle.control_point.specs.ToldLaws.{beside}
+use Rattle.surface.specs.Evaluation.{evaluationTold}
+use Rattle.surface.specs.declared.evaluation.EvaluationAnswer.{EvaluationAnswer}
 use Rattle.t_mesh.specs.declared.t_mesh.Tmesh.{Tmesh}
-use Rattle.map_file.specs.Run.{setPointAt}
+use Rattle.map_file.specs.Run.{setPointAt, fileSetPoint}
 use Rattle.map_file.specs.RunLaws.{set-point-valid, set-point-refused}
+use Rattle.map_file.specs.Table.{fileSetPointTable}
+use Rattle.map_file.specs.TableLaws.{file-set-point-told}
 use Rattle.map_file.proofs.run.file_set_point.Statement.{statement}
 use Rattle.map_file.proofs.run.file_set_point.Tie as tie
+
+-- both clauses, by the equation
+promised : (s : tie.Start) (r : EvaluationAnswer) → let a = s .args in
+    r ≡ fileSetPoint millionth (a .file .now) (a .s) (a .t)
+    → (r ≡ fileSetPoint millionth (a .file .now) (a .s) (a .t)) × (evaluationTold r ≡ fileSetPointTable millionth (a .file .now) (a .s) (a .t))
+promised s r = let a = s .args in beside evaluationTold _ _ (file-set-point-told millionth (a .file .now) (a .s) (a .t)) r
 
 validate-requires : tie.Need-validate-requires
 validate-requires c κs = search needs
@@ -32,16 +43,17 @@ returns c =
     let known = run .before .before .before in
     let check = known .before .before in
     let a = check .before .before .args in
-    c .set-point-at .ensures
+    promised (check .before .before) _
+    (c .set-point-at .ensures .0
     ∙ ap (λ (map : Tmesh). setPointAt millionth map (a .s) (a .t)) (run .run-edits .ensures .0)
-    ∙ set-point-valid millionth (a .file .now) (a .s) (a .t) _ (sym (check .validate .ensures .0) ∙ known .check .given .1)
+    ∙ set-point-valid millionth (a .file .now) (a .s) (a .t) _ (sym (check .validate .ensures .0) ∙ known .check .given .1))
 
 returns-2 : tie.Need-returns-2
 returns-2 c =
     let known = c .before in
     let check = known .before .before in
     let a = check .before .before .args in
-    set-point-refused millionth (a .file .now) (a .s) (a .t) _ (sym (check .validate .ensures .0) ∙ known .check2 .given .1)
+    promised (check .before .before) _ (set-point-refused millionth (a .file .now) (a .s) (a .t) _ (sym (check .validate .ensures .0) ∙ known .check2 .given .1))
 
 pub file-set-point-spec : {M : Type 1} → statement M
 file-set-point-spec =
