@@ -1,9 +1,9 @@
 pub mod Ray
 pub mod Knots
 pub mod Table
-pub mod RayLaws
-pub mod KnotsLaws
 pub mod KnotVector
 pub mod NeverFallingPass
-pub mod NeverFallingPassProof
+pub mod RayLaws
+pub mod KnotsLaws
 pub mod TableLaws
+pub mod NeverFallingPassProof
