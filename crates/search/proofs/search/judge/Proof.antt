@@ -1,5 +1,5 @@
 -- `judge` meets its contract: each return is the law for the tests that led there.
-use mathlib.Core.Bool.{true, false, cond, _||_}
+use mathlib.Core.Bool.{Bool, true, false, cond, _||_}
 use mathlib.Core.Path.{_≡_, _∙_, sym, ap}
 use borrow.Author.Needs.{needs}
 use borrow.Author.Tests.{not-true, not-false}
@@ -25,14 +25,16 @@ at-made c = sym (c .before .is-made .ensures) ∙ not-false _ (c .if1 .left)
 far : (c : tie.Else2) → let a = c .before .before .before .before .args in small (a .closeness) (sub binary64 (a .measure) (a .sum)) ≡ false
 far c = sym (c .before .so-small .ensures) ∙ c .if2 .left
 
--- the law for a point that is not near, at the place where that is known
-beyond : (c : tie.Else2) → let st = c .before .before .before .before in
+-- the law for a point that is not near, at the place where that is known, by the test of the sums
+beyond : (c : tie.Else2) (passed : Bool) → let st = c .before .before .before .before in
     let a = st .args in
-    judgeAt (a .closeness) (lent st) (a .made) (a .p) (a .f) (a .at) (a .measure) (a .sum) ≡ cond (lt (a .measure) (a .sum) || isLink (lent st (a .at) (flipOf (a .f)))) Ends On
-beyond c =
+    lt (a .measure) (a .sum) ≡ passed
+    → judgeAt (a .closeness) (lent st) (a .made) (a .p) (a .f) (a .at) (a .measure) (a .sum) ≡ cond (passed || isLink (lent st (a .at) (flipOf (a .f)))) Ends On
+beyond c passed h =
     let st = c .before .before .before .before in
     let a = st .args in
     judge-far (a .closeness) (lent st) (a .made) (a .p) (a .f) (a .at) (a .measure) (a .sum) (at-made (c .before .before)) (far c)
+    ∙ ap (λ (x : Bool). cond (x || isLink (lent st (a .at) (flipOf (a .f)))) Ends On) h
 
 linked : (c : tie.After-is-link) → let st = c .before .before .before .before .before .before .before .before in
     c .is-link .result ≡ isLink (lent st (st .args .at) (flipOf (st .args .f)))
@@ -71,7 +73,7 @@ returns-2 c =
     (sym (c .before .before .before .so-small .ensures) ∙ c .before .before .if2 .taken))
 
 returns-3 : tie.Need-returns-3
-returns-3 c = sym (beyond (c .before) ∙ simp (c .if3 .taken))
+returns-3 c = sym (beyond (c .before) true (c .if3 .taken))
 
 flip-requires : tie.Need-flip-requires
 flip-requires c κs = search needs
@@ -85,12 +87,12 @@ is-link-requires c κs = search needs
 returns-4 : tie.Need-returns-4
 returns-4 c =
     let e = c .before .before .before .before in
-    sym (beyond (e .before) ∙ simp (e .if3 .left, sym (linked (c .before)) ∙ c .if4 .taken))
+    sym (beyond (e .before) false (e .if3 .left) ∙ simp (sym (linked (c .before)) ∙ c .if4 .taken))
 
 returns-5 : tie.Need-returns-5
 returns-5 c =
     let e = c .before .before .before .before in
-    sym (beyond (e .before) ∙ simp (e .if3 .left, sym (linked (c .before)) ∙ c .if4 .left))
+    sym (beyond (e .before) false (e .if3 .left) ∙ simp (sym (linked (c .before)) ∙ c .if4 .left))
 
 pub judge-spec : {M : Type 1} → statement M
 judge-spec =
