@@ -38,11 +38,13 @@ mod t_mesh {
     ) -> Result<(KnotVector, KnotVector)> {
         Tmesh::point_knot_vectors(point)
     }
+
+    pub fn generate_knot_vectors<P>(mesh: &Tmesh<P>) -> Result<()> { mesh.generate_knot_vectors() }
 }
 
-pub use t_mesh::{basis_function, point_knot_vectors};
+pub use t_mesh::{basis_function, generate_knot_vectors, point_knot_vectors};
 
 impl<P> Tmesh<P> {
-    /// Whether knots are kept.
-    pub fn keeps_knots(&self) -> bool { self.knot_vectors.read().is_some() }
+    /// The knots kept.
+    pub fn kept_knots(&self) -> Option<Vec<(KnotVector, KnotVector)>> { self.knot_vectors.read().clone() }
 }

@@ -6,15 +6,27 @@ use crate::map_calls::{MapAnswer, MapCall};
 use crate::random::Random;
 use crate::reading::Insertion;
 
-/// How often each answer occurs, by kind of call; the links inferred, and the evaluations with a positive and finite weight.
+/// How often each answer occurs, by kind of call; the links inferred, the openings, and the values with a positive and finite weight.
 #[derive(Default)]
 pub struct Tally {
-    answers: [[u64; 12]; 6],
+    answers: [[u64; 16]; 10],
+    openings: u64,
     inferred: u64,
     weighty: u64,
 }
 
-const WORDS: [&str; 6] = ["insertion", "ray", "knots", "evaluation", "direct call", "walk"];
+const WORDS: [&str; 10] = [
+    "insertion",
+    "ray",
+    "knots",
+    "evaluation",
+    "all knots",
+    "openings",
+    "lent value",
+    "set-point",
+    "direct call",
+    "walk",
+];
 
 impl Tally {
     pub fn count(&mut self, call: MapCall, answer: &MapAnswer) {
@@ -23,12 +35,17 @@ impl Tally {
             MapCall::Ray { .. } => 1,
             MapCall::Knots { .. } => 2,
             MapCall::Evaluate { .. } => 3,
-            MapCall::Direct(Call::Navigate(..)) => 5,
-            MapCall::Direct(_) => 4,
+            MapCall::Generate => 4,
+            MapCall::Openings => 5,
+            MapCall::Lend { .. } => 6,
+            MapCall::SetPoint { .. } => 7,
+            MapCall::Direct(Call::Navigate(..)) => 9,
+            MapCall::Direct(_) => 8,
         };
         self.answers[kind][answer.number() as usize] += 1;
         match answer {
             MapAnswer::Inserted(Insertion::Done(counts) | Insertion::Torn(counts, _)) => self.inferred += counts.inferred as u64,
+            MapAnswer::Opened(_, openings) => self.openings += openings.len() as u64,
             MapAnswer::Evaluated(Ok(value)) => self.weighty += (value.weight > 0.0 && value.weight < f64::INFINITY) as u64,
             _ => {}
         }
@@ -40,7 +57,10 @@ impl Tally {
                 row.iter().enumerate().filter(|(_, n)| **n > 0).map(|(number, n)| format!("{number}: {n}")).collect();
             println!("{word:12} {}", counts.join(", "));
         }
-        println!("links inferred: {}; evaluations with a positive and finite weight: {}", self.inferred, self.weighty);
+        println!(
+            "links inferred: {}; openings: {}; values with a positive and finite weight: {}",
+            self.inferred, self.openings, self.weighty
+        );
     }
 }
 
@@ -72,7 +92,7 @@ pub fn run(seed: u64, maps: usize) {
             full_map(&mut random)
         } else {
             let edits = random.of(&[3, 6, 10, 20, 40]);
-            let plan = Plan { edits: random.below(edits) + 1, evaluations: true, direct_calls: place % 10 == 0 };
+            let plan = Plan { edits: random.below(edits) + 1, questions: true, direct_calls: place % 10 == 0 };
             map(&mut random, plan)
         };
         list.calls.iter().for_each(|(call, answer)| tally.count(*call, answer));

@@ -123,15 +123,28 @@ pub fn evaluation(random: &mut Random) -> MapCall {
     MapCall::Evaluate { s: parameter(random), t: parameter(random) }
 }
 
+/// A call that asks the whole map, most often for a value.
+pub fn question(random: &mut Random) -> MapCall {
+    let (s, t) = (parameter(random), parameter(random));
+    match random.below(10) {
+        0 | 1 => MapCall::Generate,
+        2 => MapCall::Openings,
+        3 => MapCall::Lend { s, t },
+        4 => MapCall::SetPoint { s, t },
+        _ => MapCall::Evaluate { s, t },
+    }
+}
+
 /// What a map is drawn for.
 #[derive(Clone, Copy)]
 pub struct Plan {
     pub edits: usize,
-    pub evaluations: bool,
+    /// Whether the whole map is asked in between: for a value, its openings, the knots of all points.
+    pub questions: bool,
     pub direct_calls: bool,
 }
 
-/// A map after random edits, evaluated in between and most often after torn ones, which keep the knots.
+/// A map after random edits, asked in between and most often after torn ones, which keep the knots.
 pub fn map(random: &mut Random, plan: Plan) -> MapList {
     let corners = std::array::from_fn(|_| position(random));
     let mut list = MapList::new(corners, border(random));
@@ -154,15 +167,19 @@ pub fn map(random: &mut Random, plan: Plan) -> MapList {
         let (con, direction) = place(random, &list.maps);
         let ratio = ratio(random, ratios);
         let torn = list.insert(random, con, direction, ratio).number() == TORN;
-        if plan.evaluations && (random.one_in(8) || torn && random.one_in(2)) {
-            list.call(evaluation(random));
+        if plan.questions && (random.one_in(8) || torn && random.one_in(2)) {
+            list.call(question(random));
         }
         if plan.direct_calls && random.one_in(3) {
             let call = direct_call(random, &list.maps);
             list.call(MapCall::Direct(call));
+            if random.one_in(4) {
+                list.call(MapCall::Generate);
+                list.call(evaluation(random));
+            }
         }
     }
-    if plan.evaluations {
+    if plan.questions {
         list.call(evaluation(random));
     }
     list
@@ -170,7 +187,7 @@ pub fn map(random: &mut Random, plan: Plan) -> MapList {
 
 /// A map whose store is filled, and edits beyond.
 pub fn full_map(random: &mut Random) -> MapList {
-    let plan = Plan { edits: 100, evaluations: false, direct_calls: false };
+    let plan = Plan { edits: 100, questions: false, direct_calls: false };
     let mut list = map(random, plan);
     let mut edits = 0;
     while edits < 600 && (list.maps.made() < CAPACITY || edits % 4 != 0) {

@@ -7,7 +7,7 @@ use crate::map_file::{
     COUNT_BYTES, EDIT_BYTES, Edit, HEAD_BYTES, MOST_EDITS, MapFile, Run, VALUE_BYTES, bytes_of, host_answer, read, run, text,
 };
 use crate::random::Random;
-use crate::reading::{DOWN, Insertion, LEFT, OPEN_SIDE, RIGHT, RING, UP};
+use crate::reading::{DOWN, Insertion, LEFT, NO_WEIGHT, OPEN_SIDE, RIGHT, RING, UP};
 
 const DRAWN: usize = 320;
 const REFUSED_EVALUATIONS: usize = 8;
@@ -132,7 +132,7 @@ fn drawn(random: &mut Random) -> Vec<Vec<u8>> {
     for place in 0..DRAWN {
         let most = [6, 12, 25, 50][place % 4];
         let edits = 1 + random.below(most);
-        files.push(bytes_of(&file_of(&map(random, Plan { edits, evaluations: false, direct_calls: false }))));
+        files.push(bytes_of(&file_of(&map(random, Plan { edits, questions: false, direct_calls: false }))));
     }
     files
 }
@@ -142,7 +142,7 @@ fn refused_evaluations(random: &mut Random) -> Vec<Vec<u8>> {
     let mut files = vec![bytes_of(&square(random, BORDER_MET))];
     while files.len() < REFUSED_EVALUATIONS {
         let edits = 1 + random.below(12);
-        let file = file_of(&map(random, Plan { edits, evaluations: false, direct_calls: false }));
+        let file = file_of(&map(random, Plan { edits, questions: false, direct_calls: false }));
         if run(&file).set_point(0.5, 0.5).err() == Some(OPEN_SIDE) {
             files.push(bytes_of(&file));
         }
@@ -306,7 +306,7 @@ impl Case {
 /// A file of a drawn map, at times of a full one, and at times with a byte changed.
 pub fn fresh(random: &mut Random, place: usize) -> Case {
     let most = random.of(&[6, 12, 25, 50]);
-    let plan = Plan { edits: 1 + random.below(most), evaluations: false, direct_calls: false };
+    let plan = Plan { edits: 1 + random.below(most), questions: false, direct_calls: false };
     let list = if place % 100 == 0 { full_map(random) } else { map(random, plan) };
     let mut file = bytes_of(&file_of(&list));
     if random.one_in(10) {
@@ -364,6 +364,10 @@ pub fn write(seed: u64) {
             cases.push(Case { kind, file, calls });
         }
     }
+    // Outside the map of no edits, which stands first, there is no weight.
+    let outside = (5.0f64.to_bits(), 0.5f64.to_bits(), VALUE_BYTES);
+    assert_eq!(host_answer(&cases[0].file, outside.0, outside.1, outside.2), Err(NO_WEIGHT));
+    cases[0].calls.push(outside);
     let mut out = Bytes::default();
     cases.iter().for_each(|case| out.0.extend(encoded(case)));
     print_table(&cases);

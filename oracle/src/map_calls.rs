@@ -12,6 +12,12 @@ pub enum MapCall {
     Ray { point: u8, direction: usize, count: usize },
     Knots { point: u8 },
     Evaluate { s: f64, t: f64 },
+    Generate,
+    Openings,
+    /// The map lent, and its value by what was lent.
+    Lend { s: f64, t: f64 },
+    /// The set-point of an evaluation.
+    SetPoint { s: f64, t: f64 },
     Direct(Call),
 }
 
@@ -22,6 +28,9 @@ pub enum MapAnswer {
     Cast(Result<Vec<f64>, u8>),
     Knotted(Result<Knots, u8>),
     Evaluated(Result<Value, u8>),
+    Generated(Result<(), u8>),
+    /// How many points are made, and which of their sides are openings.
+    Opened(usize, Vec<(u8, usize)>),
     Direct(Answer),
 }
 
@@ -35,6 +44,8 @@ impl MapAnswer {
             MapAnswer::Cast(answer) => answer.as_ref().err().copied().unwrap_or(0),
             MapAnswer::Knotted(answer) => answer.err().unwrap_or(0),
             MapAnswer::Evaluated(answer) => answer.err().unwrap_or(0),
+            MapAnswer::Generated(answer) => answer.err().unwrap_or(0),
+            MapAnswer::Opened(..) => 0,
             MapAnswer::Direct(answer) => answer.number,
         }
     }
@@ -79,7 +90,10 @@ impl Maps {
             }
             MapCall::Ray { point, direction, count } => MapAnswer::Cast(self.ray(point, direction, count)),
             MapCall::Knots { point } => MapAnswer::Knotted(self.knots(point)),
-            MapCall::Evaluate { s, t } => MapAnswer::Evaluated(self.evaluate(s, t)),
+            MapCall::Evaluate { s, t } | MapCall::Lend { s, t } => MapAnswer::Evaluated(self.evaluate(s, t)),
+            MapCall::SetPoint { s, t } => MapAnswer::Evaluated(self.evaluate(s, t).and_then(Value::set_point)),
+            MapCall::Generate => MapAnswer::Generated(self.generate()),
+            MapCall::Openings => MapAnswer::Opened(self.made(), self.openings()),
             MapCall::Direct(call) => MapAnswer::Direct(self.direct(call)),
         }
     }
@@ -146,9 +160,46 @@ impl Maps {
         if self.followed && self.same_knots {
             let published = self.original.subs(s, t).map(bits);
             assert_eq!(published, answer.map(|value| bits(value.position)), "evaluation at {s} {t}");
-            assert_eq!(self.original.keeps_knots(), self.reading.kept.is_some());
+            self.assert_same_knots();
         }
         answer
+    }
+
+    /// The published map is not asked where it may not end or panics, and not where it would sort: it then keeps what it kept.
+    fn generate(&mut self) -> Result<(), u8> {
+        let converts = self.conversion_ends();
+        let answer = self.reading.generate_knot_vectors();
+        if answer == Err(RING) || answer.is_err() && !converts {
+            return answer;
+        }
+        if answer.is_ok() {
+            self.same_knots = self.reading.kept.iter().flatten().all(|knots| knots.never_fall());
+        }
+        if self.followed && self.same_knots {
+            assert_eq!(self.original.generate_knot_vectors(), answer, "knots of all listed points");
+            self.assert_same_knots();
+        }
+        answer
+    }
+
+    /// Each opening is an opening of the published point too, and no other side is.
+    fn openings(&self) -> Vec<(u8, usize)> {
+        let openings = self.reading.store.openings();
+        if self.followed {
+            let points = self.original.store.read();
+            let sides = (0..points.len()).flat_map(|n| (0..4).map(move |d| (n, d)));
+            let published = sides.filter(|&(n, d)| points[n].sides[d].is_opening()).map(|(n, d)| (n as u8, d));
+            assert!(published.eq(openings.iter().copied()), "openings");
+        }
+        openings
+    }
+
+    /// Both keep no knots, or the same.
+    fn assert_same_knots(&self) {
+        let plain = |kept: Option<Vec<Knots>>| {
+            kept.map(|rows| rows.into_iter().map(|row| (bits(row.s), bits(row.t))).collect::<Vec<_>>())
+        };
+        assert_eq!(plain(self.original.kept()), plain(self.reading.kept.clone()), "knots kept");
     }
 
     /// Whether no knots before the first refusal hold a NaN, at which the published conversion panics.
@@ -174,12 +225,23 @@ impl Maps {
         if self.followed {
             assert_same_points(&self.reading.store.points, &self.original.store.read());
             assert_eq!(self.reading.listed, self.original.listed());
+            for (point, position) in self.reading.positions.iter().enumerate() {
+                assert_eq!(bits(*position), bits(self.original.store.position(point as u8)), "position of {point}");
+            }
+        }
+        if self.followed && self.same_knots {
+            self.assert_same_knots();
         }
     }
 }
 
 /// A call's bytes: its kind, its numbers and directions, its floats. A direct call's kind is 16 more than in a list of direct calls.
 pub fn put_map_call(out: &mut Bytes, call: MapCall) {
+    let mut at_place = |kind: u8, s: f64, t: f64| {
+        out.byte(kind);
+        out.float(s);
+        out.float(t);
+    };
     match call {
         MapCall::Insert { con, direction, ratio, position } => {
             [0, con, direction as u8].iter().for_each(|n| out.byte(*n));
@@ -190,11 +252,11 @@ pub fn put_map_call(out: &mut Bytes, call: MapCall) {
             [1, point, direction as u8, count as u8].iter().for_each(|n| out.byte(*n))
         }
         MapCall::Knots { point } => [2, point].iter().for_each(|n| out.byte(*n)),
-        MapCall::Evaluate { s, t } => {
-            out.byte(3);
-            out.float(s);
-            out.float(t);
-        }
+        MapCall::Evaluate { s, t } => at_place(3, s, t),
+        MapCall::Generate => out.byte(4),
+        MapCall::Openings => out.byte(5),
+        MapCall::Lend { s, t } => at_place(6, s, t),
+        MapCall::SetPoint { s, t } => at_place(7, s, t),
         MapCall::Direct(call) => {
             let start = out.0.len();
             put_call(out, call);
@@ -203,10 +265,20 @@ pub fn put_map_call(out: &mut Bytes, call: MapCall) {
     }
 }
 
-/// An answer's bytes: its number; of an insertion done or torn its counts; of any other that was not refused its floats.
+/// The openings' bytes: how many there are, then for each side of each point made whether it is one.
+fn put_openings(out: &mut Bytes, made: usize, openings: &[(u8, usize)]) {
+    out.pair(openings.len() as u16);
+    let sides = (0..made as u8).flat_map(|n| (0..4).map(move |d| (n, d)));
+    sides.for_each(|side| out.byte(openings.contains(&side) as u8));
+}
+
+/// An answer's bytes: its number; of an insertion done or torn its counts; of any other that was not refused its floats. The openings have
+/// no number.
 pub fn put_map_answer(out: &mut Bytes, answer: &MapAnswer) {
-    if let MapAnswer::Direct(answer) = answer {
-        return put_answer(out, *answer);
+    match answer {
+        MapAnswer::Direct(answer) => return put_answer(out, *answer),
+        MapAnswer::Opened(made, openings) => return put_openings(out, *made, openings),
+        _ => {}
     }
     out.byte(answer.number());
     match answer {
@@ -215,7 +287,7 @@ pub fn put_map_answer(out: &mut Bytes, answer: &MapAnswer) {
             out.byte(counts.inferred);
         }
         MapAnswer::Cast(Ok(entries)) => entries.iter().for_each(|x| out.float(*x)),
-        MapAnswer::Knotted(Ok(knots)) => knots.s.iter().chain(&knots.t).for_each(|x| out.float(*x)),
+        MapAnswer::Knotted(Ok(knots)) => put_knots(out, knots),
         MapAnswer::Evaluated(Ok(value)) => {
             value.position.iter().for_each(|x| out.float(*x));
             out.float(value.weight);
@@ -224,11 +296,18 @@ pub fn put_map_answer(out: &mut Bytes, answer: &MapAnswer) {
     }
 }
 
-/// A map's bytes at the end of a list: its points, then for each point made whether it is listed, then whether knots are kept.
+fn put_knots(out: &mut Bytes, knots: &Knots) {
+    knots.s.iter().chain(&knots.t).for_each(|x| out.float(*x));
+}
+
+/// A map's bytes at the end of a list: its points, then for each point made whether it is listed, then whether knots are kept, then each
+/// point's position, then the knots kept of each listed point.
 pub fn put_map(out: &mut Bytes, map: &reading::Map) {
     put_points(out, &map.store.points);
     for point in 0..map.store.made() {
         out.byte(map.listed.contains(&(point as u8)) as u8);
     }
     out.byte(map.kept.is_some() as u8);
+    map.positions.iter().flatten().for_each(|x| out.float(*x));
+    map.kept.iter().flatten().for_each(|knots| put_knots(out, knots));
 }

@@ -1,13 +1,14 @@
 //! Lists of calls on whole maps, each with the answer of every call and the map at the end.
 use crate::bytes::Bytes;
 use crate::calls::Call;
-use crate::draw::{MapList, Plan, RING_PREFIXES, evaluation, full_map, map};
-use crate::map_calls::{MapCall, put_map, put_map_answer, put_map_call};
+use crate::draw::{MapList, Plan, RING_PREFIXES, evaluation, full_map, map, question};
+use crate::map_calls::{MapAnswer, MapCall, put_map, put_map_answer, put_map_call};
+use crate::map_file::bits;
 use crate::random::Random;
-use crate::reading::{DOWN, LEFT, RIGHT, UP};
+use crate::reading::{BORDER, CAPACITY, DOWN, FULL, INTERVAL, LEFT, NO_WEIGHT, OPEN_SIDE, RIGHT, UP};
 
 const ALL_RAYS: usize = 24;
-const SOME_RAYS: usize = 260;
+const SOME_RAYS: usize = 170;
 const DIRECT_CALLS: usize = 60;
 const FULL_STORES: usize = 4;
 const EVERY_LENGTH: [usize; 6] = [0, 1, 2, 3, 4, 5];
@@ -112,15 +113,23 @@ fn worked_examples(random: &mut Random) -> Vec<MapList> {
     for (s, t) in [(0.5, 0.5), (5.0, 0.5), (0.0, 1.0), (f64::NAN, 0.5)] {
         fresh.call(MapCall::Evaluate { s, t });
     }
+    let MapAnswer::Evaluated(Ok(outside)) = fresh.call(MapCall::Evaluate { s: 5.0, t: 0.5 }) else { unreachable!() };
+    assert_eq!(outside.weight, 0.0);
+    assert_eq!(fresh.call(MapCall::SetPoint { s: 5.0, t: 0.5 }).number(), NO_WEIGHT);
+    fresh.call(MapCall::SetPoint { s: 0.5, t: 0.5 });
+    fresh.call(MapCall::Lend { s: 0.5, t: 0.5 });
+    fresh.call(MapCall::Openings);
     insert(&mut fresh, random, &[(0, LEFT, 0.5), (0, RIGHT, 2.0), (4, RIGHT, 0.5), (255, UP, 0.5)]);
 
     let mut at_one = square();
     insert(&mut at_one, random, &[(0, RIGHT, 1.0)]);
 
     let mut torn = square();
-    torn.call(MapCall::Evaluate { s: 0.25, t: 0.75 });
+    let before = torn.call(MapCall::Evaluate { s: 0.25, t: 0.75 });
     insert(&mut torn, random, &[(0, RIGHT, 0.0), (4, RIGHT, 0.5)]);
-    torn.call(MapCall::Evaluate { s: 0.25, t: 0.75 });
+    assert_same_value(&before, &torn.call(MapCall::Evaluate { s: 0.25, t: 0.75 }));
+    torn.call(MapCall::Openings);
+    assert_same_value(&before, &torn.call(MapCall::Lend { s: 0.25, t: 0.75 }));
 
     let mut inferred = square();
     insert(&mut inferred, random, &[(0, RIGHT, 0.5)]);
@@ -130,12 +139,73 @@ fn worked_examples(random: &mut Random) -> Vec<MapList> {
     let mut infinite = square();
     infinite.call(MapCall::Direct(Call::RemoveConnection(0, RIGHT)));
     infinite.call(MapCall::Direct(Call::Connect(0, 1, RIGHT, f64::INFINITY)));
-    insert(&mut infinite, random, &[(0, RIGHT, 0.5), (1, LEFT, 0.0)]);
+    assert_eq!(infinite.insert(random, 0, RIGHT, 0.5).number(), INTERVAL);
+    insert(&mut infinite, random, &[(1, LEFT, 0.0)]);
     infinite.call(MapCall::Direct(Call::RemoveConnection(3, DOWN)));
     infinite.call(MapCall::Direct(Call::Connect(3, 0, DOWN, f64::NAN)));
     insert(&mut infinite, random, &[(3, DOWN, 0.5), (0, UP, 1.0), (2, LEFT, 0.25)]);
     infinite.call(MapCall::Evaluate { s: 0.5, t: 0.5 });
-    vec![square(), fresh, at_one, torn, inferred, infinite]
+    vec![square(), fresh, at_one, torn, inferred, infinite, refused_knots(), no_knots(), full_line(random)]
+}
+
+/// Links are cut so that a ray is refused: the knots kept stay kept when building them is refused.
+fn refused_knots() -> MapList {
+    let evaluate = MapCall::Evaluate { s: 0.25, t: 0.75 };
+    let direct = |list: &mut MapList, calls: [Call; 2]| {
+        for call in calls {
+            assert_eq!(list.call(MapCall::Direct(call)).number(), 0);
+        }
+    };
+    let mut list = square();
+    let first = list.call(evaluate);
+    direct(&mut list, [Call::RemoveConnection(0, RIGHT), Call::RemoveConnection(3, RIGHT)]);
+    assert_eq!(list.call(MapCall::Generate).number(), BORDER);
+    assert_same_value(&first, &list.call(evaluate));
+    assert_same_value(&first, &list.call(MapCall::Lend { s: 0.25, t: 0.75 }));
+    direct(&mut list, [Call::Connect(0, 1, RIGHT, 0.5), Call::Connect(3, 2, RIGHT, 0.5)]);
+    assert_same_value(&first, &list.call(evaluate));
+    assert_eq!(list.call(MapCall::Generate).number(), 0);
+    let second = list.call(evaluate);
+    direct(&mut list, [Call::RemoveEdgeCondition(3, UP), Call::RemoveEdgeCondition(3, LEFT)]);
+    assert_eq!(list.call(MapCall::Generate).number(), OPEN_SIDE);
+    assert_same_value(&second, &list.call(evaluate));
+    list
+}
+
+/// The same cut where no knots are kept: none are kept then either.
+fn no_knots() -> MapList {
+    let mut list = square();
+    list.call(MapCall::Direct(Call::RemoveConnection(0, RIGHT)));
+    list.call(MapCall::Direct(Call::RemoveConnection(3, RIGHT)));
+    let place = (0.25, 0.75);
+    for call in [
+        MapCall::Generate,
+        MapCall::Evaluate { s: place.0, t: place.1 },
+        MapCall::Lend { s: place.0, t: place.1 },
+        MapCall::SetPoint { s: place.0, t: place.1 },
+    ] {
+        assert_eq!(list.call(call).number(), BORDER);
+    }
+    list.call(MapCall::Openings);
+    list
+}
+
+/// A line of points until the store is full: the 129th point is 10.
+fn full_line(random: &mut Random) -> MapList {
+    let mut list = square();
+    let mut con = 0;
+    while list.maps.made() < CAPACITY {
+        assert_eq!(list.insert(random, con, RIGHT, 0.5).number(), 0);
+        con = list.maps.made() as u8 - 1;
+    }
+    assert_eq!(list.insert(random, con, RIGHT, 0.5).number(), FULL);
+    assert_eq!(list.call(MapCall::Direct(Call::Make(1.0))).number(), FULL);
+    list
+}
+
+fn assert_same_value(before: &MapAnswer, after: &MapAnswer) {
+    let (MapAnswer::Evaluated(Ok(before)), MapAnswer::Evaluated(Ok(after))) = (before, after) else { panic!("a refusal") };
+    assert_eq!(bits(before), bits(after));
 }
 
 /// A map after edits, evaluated, with rays of some lengths from every point and side.
@@ -145,6 +215,8 @@ fn edited(random: &mut Random, edits: &[(u8, usize, f64)], lengths: &[usize]) ->
         list.insert(random, con, direction, ratio);
     }
     list.call(MapCall::Evaluate { s: 0.5, t: 0.5 });
+    list.call(MapCall::Lend { s: 0.5, t: 0.5 });
+    list.call(MapCall::Openings);
     rays(&mut list, lengths);
     list
 }
@@ -170,6 +242,8 @@ fn some_rays(list: &mut MapList, random: &mut Random) {
         let point = random.below(list.maps.made() + 1) as u8;
         list.call(MapCall::Knots { point });
     }
+    list.call(MapCall::Openings);
+    list.call(question(random));
     list.call(evaluation(random));
 }
 
@@ -196,7 +270,7 @@ pub fn write(seed: u64) {
     for place in 0..ALL_RAYS + SOME_RAYS + DIRECT_CALLS {
         let direct_calls = place >= ALL_RAYS + SOME_RAYS;
         let edits = 1 + if place < ALL_RAYS { place % 9 } else { random.below(28) };
-        let mut list = map(&mut random, Plan { edits, evaluations: true, direct_calls });
+        let mut list = map(&mut random, Plan { edits, questions: true, direct_calls });
         if place < ALL_RAYS {
             rays(&mut list, &EVERY_LENGTH);
         } else {

@@ -2,12 +2,11 @@
 //! describes them. The map itself is run on both sides, as everywhere in the comparison.
 use crate::bytes::bits_of;
 use crate::map_calls::{MapAnswer, MapCall, Maps};
-use crate::reading::{DOWN, LEFT, RIGHT, Refused, Side, UP, Value, opposite};
+use crate::reading::{RIGHT, Refused, Side, UP, Value, opposite};
 
 pub const LENGTH: u8 = 12;
 pub const VERSION: u8 = 13;
 pub const HEADING: u8 = 14;
-pub const NO_WEIGHT: u8 = 15;
 pub const SHORT: u8 = 16;
 
 /// The bytes of the count, those after it without edits, those of an edit, and how many edits there may be.
@@ -114,11 +113,9 @@ pub fn run(file: &MapFile) -> Run {
 }
 
 impl Run {
-    /// The set-point: the value of an evaluation whose weight is positive and finite.
     pub fn set_point(&mut self, s: f64, t: f64) -> Refused<Value> {
-        let MapAnswer::Evaluated(answer) = self.maps.make(MapCall::Evaluate { s, t }) else { unreachable!() };
-        let value = answer?;
-        if value.weight > 0.0 && value.weight < f64::INFINITY { Ok(value) } else { Err(NO_WEIGHT) }
+        let MapAnswer::Evaluated(answer) = self.maps.make(MapCall::SetPoint { s, t }) else { unreachable!() };
+        answer
     }
 
     /// The links that lead back: each is counted at one of its ends.
@@ -129,12 +126,6 @@ impl Run {
             matches!(points[other as usize].sides[opposite(d)], Side::Link(back, _) if back as usize == n)
         };
         (0..points.len()).flat_map(|n| [(n, UP), (n, RIGHT)]).filter(|&(n, d)| leads_back(n, d)).count()
-    }
-
-    fn openings(&self) -> Vec<(usize, usize)> {
-        let points = &self.maps.reading.store.points;
-        let sides = (0..points.len()).flat_map(|n| [UP, RIGHT, DOWN, LEFT].map(|d| (n, d)));
-        sides.filter(|&(n, d)| points[n].sides[d].is_opening()).collect()
     }
 }
 
@@ -157,7 +148,7 @@ pub fn text(file: &[u8]) -> String {
         }
     }
     text += &format!("made {} listed {} links {}\n", run.maps.made(), run.maps.reading.listed.len(), run.links());
-    for (point, direction) in run.openings() {
+    for (point, direction) in run.maps.reading.store.openings() {
         text += &format!("open {point} {direction}\n");
     }
     text + &match run.set_point(0.5, 0.5) {

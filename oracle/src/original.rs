@@ -4,7 +4,7 @@ use crate::reading::{Knots, Point, Side, TORN};
 use published::errors::Error;
 use published::parking_lot::RwLock;
 use published::position::Position;
-use published::t_spline::{Tmesh, TmeshControlPoint, TmeshDirection, point_knot_vectors};
+use published::t_spline::{Tmesh, TmeshControlPoint, TmeshDirection, generate_knot_vectors, point_knot_vectors};
 use std::sync::Arc;
 
 type Shared = Arc<RwLock<TmeshControlPoint<Position>>>;
@@ -15,6 +15,11 @@ pub fn direction(d: usize) -> TmeshDirection {
 
 fn number(error: Error) -> u8 {
     error.number().unwrap_or_else(|| panic!("an error without a number: {error}"))
+}
+
+fn knots(s: &[f64], t: &[f64]) -> Knots {
+    let five = |line: &[f64]| <[f64; 5]>::try_from(line).expect("five knots");
+    Knots { s: five(s), t: five(t) }
 }
 
 /// The points, in the order in which they were made.
@@ -69,8 +74,11 @@ impl Store {
 
     /// The knots as the published conversion leaves them.
     pub fn point_knot_vectors(&self, point: u8) -> Result<Knots, u8> {
-        let five = |line: &[f64]| <[f64; 5]>::try_from(line).expect("five knots");
-        point_knot_vectors(self.shared(point)).map(|(s, t)| Knots { s: five(&s), t: five(&t) }).map_err(number)
+        point_knot_vectors(self.shared(point)).map(|(s, t)| knots(&s, &t)).map_err(number)
+    }
+
+    pub fn position(&self, point: u8) -> [f64; 3] {
+        self.points[point as usize].read().point().0
     }
 
     fn side(&self, point: &TmeshControlPoint<Position>, d: usize) -> Side {
@@ -139,8 +147,13 @@ impl Map {
         self.mesh.subs(s, t).map(|position| position.0).map_err(number)
     }
 
-    pub fn keeps_knots(&self) -> bool {
-        self.mesh.keeps_knots()
+    pub fn generate_knot_vectors(&self) -> Result<(), u8> {
+        generate_knot_vectors(&self.mesh).map_err(number)
+    }
+
+    /// The rows of the listed points, in their order.
+    pub fn kept(&self) -> Option<Vec<Knots>> {
+        self.mesh.kept_knots().map(|rows| rows.iter().map(|(s, t)| knots(s, t)).collect())
     }
 
     pub fn listed(&self) -> Vec<u8> {

@@ -16,7 +16,7 @@ use std::process::Command;
 
 /// How many lists are judged at a time.
 const AT_A_TIME: usize = 500;
-const EVALUATIONS: usize = 24;
+const VALUES: usize = 24;
 
 /// A program that replays the file `cases` of the folder in which it is run, and writes `right N wrong M`.
 struct Program {
@@ -104,7 +104,8 @@ fn lines<C: Debug>(calls: &[C]) -> String {
     calls.iter().map(|call| format!("\n    {call:?}")).collect()
 }
 
-/// Rays of length 5 from every point and side, the knots of every point, and evaluations, after what was drawn.
+/// Rays of length 5 from every point and side, the knots of every point, the openings, and values, after what was drawn. Somewhere among the
+/// values the knots of all points are built anew.
 fn probed(mut list: MapList, random: &mut Random) -> MapList {
     for point in 0..list.maps.made() as u8 {
         for direction in 0..4 {
@@ -112,8 +113,18 @@ fn probed(mut list: MapList, random: &mut Random) -> MapList {
         }
         list.call(MapCall::Knots { point });
     }
-    for _ in 0..EVALUATIONS {
-        list.call(MapCall::Evaluate { s: parameter(random), t: parameter(random) });
+    list.call(MapCall::Openings);
+    let generation = random.below(VALUES + 1);
+    for value in 0..VALUES {
+        if value == generation {
+            list.call(MapCall::Generate);
+        }
+        let (s, t) = (parameter(random), parameter(random));
+        list.call(match value % 4 {
+            0 => MapCall::Lend { s, t },
+            1 => MapCall::SetPoint { s, t },
+            _ => MapCall::Evaluate { s, t },
+        });
     }
     list
 }
@@ -123,7 +134,7 @@ fn map_list(random: &mut Random, place: usize) -> MapList {
         return full_map(random);
     }
     let edits = random.of(&[3, 6, 10, 20, 40]);
-    let plan = Plan { edits: random.below(edits) + 1, evaluations: true, direct_calls: place % 5 == 0 };
+    let plan = Plan { edits: random.below(edits) + 1, questions: true, direct_calls: place % 5 == 0 };
     let list = map(random, plan);
     probed(list, random)
 }

@@ -14,6 +14,7 @@ pub const TORN: u8 = 8;
 pub const RING: u8 = 9;
 pub const FULL: u8 = 10;
 pub const NO_POINT: u8 = 11;
+pub const NO_WEIGHT: u8 = 15;
 
 pub const CAPACITY: usize = 128;
 
@@ -168,6 +169,12 @@ impl Store {
         }
         found.coordinates = [horizontal, vertical];
         Ok(())
+    }
+
+    /// The openings of the points made, each once.
+    pub fn openings(&self) -> Vec<(u8, usize)> {
+        let sides = (0..self.made() as u8).flat_map(|n| [UP, RIGHT, DOWN, LEFT].map(|d| (n, d)));
+        sides.filter(|&(n, d)| self.side(n, d).is_opening()).collect()
     }
 
     /// The point over a side and the interval to it; over an opening 3, over a border 4.
@@ -343,6 +350,13 @@ pub struct Value {
     pub weight: f64,
 }
 
+impl Value {
+    /// The set-point: refused unless the weight is positive and finite.
+    pub fn set_point(self) -> Refused<Value> {
+        if self.weight > 0.0 && self.weight < f64::INFINITY { Ok(self) } else { Err(NO_WEIGHT) }
+    }
+}
+
 /// A map: its points, their positions, which are listed, and the knots kept.
 #[derive(Clone, Debug)]
 pub struct Map {
@@ -430,18 +444,19 @@ impl Map {
         Insertion::Done(counts)
     }
 
-    /// Builds the knots of all listed points, unless some are kept.
+    /// Builds the knots of all listed points anew. A ray's refusal is returned and leaves the map as it was: only an insertion
+    /// that is done drops knots that are kept.
     pub fn generate_knot_vectors(&mut self) -> Refused<()> {
-        if self.kept.is_none() {
-            let all: Refused<Vec<Knots>> =
-                self.listed.iter().map(|&point| self.store.point_knot_vectors(point)).collect();
-            self.kept = Some(all?);
-        }
+        let all: Refused<Vec<Knots>> = self.listed.iter().map(|&point| self.store.point_knot_vectors(point)).collect();
+        self.kept = Some(all?);
         Ok(())
     }
 
+    /// Knots are built only if none are kept.
     pub fn subs(&mut self, s: f64, t: f64) -> Refused<Value> {
-        self.generate_knot_vectors()?;
+        if self.kept.is_none() {
+            self.generate_knot_vectors()?;
+        }
         let mut value = Value { position: [0.0; 3], weight: 0.0 };
         for (knots, &point) in self.kept.iter().flatten().zip(&self.listed) {
             let weight = basis_function(s, &knots.s) * basis_function(t, &knots.t);

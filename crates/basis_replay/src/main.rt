@@ -33,10 +33,15 @@ fn is_right(case: &[u8]) -> bool
     float64::to_bits(value) == big_endian::number_at(case, 48)
 }
 
+// The next case, judged; one that the file ends within is wrong.
 fn next_outcome(descriptor: i32) -> Outcome {
     let mut case = [0u8; 56];
-    if io::read_full(descriptor, &mut case) < CASE_BYTES {
+    let read = io::read_full(descriptor, &mut case);
+    if read == 0 {
         return Outcome::End;
+    }
+    if read < CASE_BYTES {
+        return Outcome::Wrong;
     }
     outcome_of(is_right(&case))
 }

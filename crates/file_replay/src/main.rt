@@ -85,11 +85,16 @@ fn judged(buffer: &[u8], bytes: usize) -> Outcome {
     Outcome::Wrong
 }
 
+// The next case, judged; one that the file ends within is wrong.
 fn next_outcome(descriptor: i32) -> Outcome {
     let mut length = [0u8; 2];
     let mut case = io::large_buffer();
-    if !fill(descriptor, &mut length, 2) {
+    let read = io::read_full(descriptor, &mut length);
+    if read == 0 {
         return Outcome::End;
+    }
+    if read < 2 {
+        return Outcome::Wrong;
     }
     let bytes = pair_at(&length, 0);
     if !fill(descriptor, &mut case, bytes) {

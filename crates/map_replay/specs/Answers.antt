@@ -1,25 +1,31 @@
 -- Answers of the calls on a map, and the map at a list's end, against stored bytes. A call's bytes begin with its kind and its arguments; the answer's
 -- number follows them, and then what a call that is done answers besides. Floats are compared by their bits; a flag is 1 or 0.
 use Prim.Native.Nat.{ℕ, zero, suc, _+_, _*_}
-use mathlib.Core.Bool.{Bool, true, cond, _&&_}
+use mathlib.Core.Bool.{Bool, true, false, cond, _&&_}
 use mathlib.Core.List.{List, []}
-use lib.Dec.{eqb}
+use lib.Dec.{eqb, ltb}
 use lib.Ieee.{Float, nan}
 use lib.ListN.{drop, getD, length}
+use Rattle.census.specs.Census.{countBelow, occurrences}
+use Rattle.census.specs.declared.census.Openings.{Openings}
 use Rattle.control_point.specs.Refusal.{refusalNumber}
+use Rattle.control_point.specs.Told.{outcomeNumber}
 use Rattle.control_point.specs.declared.refusal.Outcome.{Outcome}
 use Rattle.control_point.specs.declared.refusal.Outcome.the-variants.{Done as Settled, Refused as NotSettled}
+use Rattle.surface.specs.Evaluation.{noKnots, noPosition}
 use Rattle.surface.specs.declared.evaluation.Evaluation.{Evaluation}
 use Rattle.surface.specs.declared.evaluation.EvaluationAnswer.{EvaluationAnswer}
 use Rattle.surface.specs.declared.evaluation.EvaluationAnswer.the-variants.{Is, Refused as NotEvaluated}
 use Rattle.insertion.specs.declared.insertion.InsertAnswer.{InsertAnswer}
 use Rattle.insertion.specs.declared.insertion.InsertAnswer.the-variants.{Done, Torn, Refused}
 use Rattle.ray.specs.declared.knots.KnotsAnswer.{KnotsAnswer}
+use Rattle.ray.specs.declared.knots.PointKnots.{PointKnots}
 use Rattle.store.specs.declared.store.Store.{Store}
 use Rattle.stored_calls.specs.Points.{hasBits, storeIsRight}
 use Rattle.big_endian.specs.BigEndian.{byteAt, numberAt, floatAt}
-use Rattle.t_mesh.specs.Tmesh.{listedIn}
+use Rattle.t_mesh.specs.Tmesh.{listedIn, meshStore}
 use Rattle.t_mesh.specs.declared.t_mesh.Position.{Position}
+use Rattle.t_mesh.specs.declared.t_mesh.Tmesh.{Tmesh}
 use Rattle.map_replay.specs.declared.answers.Judged.{Judged}
 
 -- the position whose three coordinates stand at a place
@@ -80,6 +86,36 @@ unfoldable pub evaluationJudged : EvaluationAnswer → List ℕ → Judged
 evaluationJudged (Is value) call = record { right = eqb (byteAt call 17) 0 && valueIsRight value (drop 18 call); bytes = 50 }
 evaluationJudged (NotEvaluated refusal) call = record { right = eqb (byteAt call 17) (refusalNumber refusal); bytes = 18 }
 
+-- the knots of all listed points held against the number stored
+abbrev pub generationJudged : Outcome → List ℕ → Judged
+generationJudged outcome call = record { right = eqb (outcomeNumber outcome) (byteAt call 1); bytes = 2 }
+
+-- ---- openings, in any order
+-- whether a direction of a point stands in a list of openings as often as stored: once, or not at all
+abbrev pub standsRight : Openings → ℕ → ℕ → List ℕ → Bool
+standsRight openings n k bytes = eqb (occurrences openings n k) (byteAt bytes k)
+
+abbrev pub sidesStandRight : Openings → ℕ → List ℕ → Bool
+sidesStandRight openings n bytes =
+    (standsRight openings n 0 bytes && standsRight openings n 1 bytes) && (standsRight openings n 2 bytes && standsRight openings n 3 bytes)
+
+-- whether the four directions of each of the first so many points do
+unfoldable pub openingsStandRight : ℕ → Openings → List ℕ → Bool
+openingsStandRight zero openings bytes = true
+openingsStandRight (suc n) openings bytes = openingsStandRight n openings bytes && sidesStandRight openings n (drop (n * 4) bytes)
+
+-- a list of openings held against the stored one: how many there are, and which
+abbrev pub openingsAreRight : Openings → ℕ → List ℕ → Bool
+openingsAreRight openings made call = eqb (openings .count) (numberAt 2 call 1) && openingsStandRight made openings (drop 3 call)
+
+-- no list is longer than 512
+unfoldable pub openingsJudged : Openings → ℕ → List ℕ → Judged
+openingsJudged openings made call = record {
+  right = cond (ltb 512 (openings .count)) false (openingsAreRight openings made call);
+  bytes = made * 4 + 3;
+}
+
+-- ---- the map at a list's end
 -- whether a byte says what a flag is
 abbrev pub flagIsAt : Bool → List ℕ → ℕ → Bool
 flagIsAt flag bytes at = eqb (byteAt bytes at) (cond flag 1 0)
@@ -89,8 +125,46 @@ unfoldable pub listingIsRight : ℕ → List Bool → List ℕ → Bool
 listingIsRight zero listed bytes = true
 listingIsRight (suc n) listed bytes = listingIsRight n listed bytes && flagIsAt (listedIn listed n) bytes n
 
--- whether a map is the one that bytes begin with: its store, its listing, and whether knots are kept
-abbrev pub mapIsRight : Store → List Bool → Bool → List ℕ → Bool
-mapIsRight store listed kept bytes =
+-- whether bytes begin with a store, a listing, and whether knots are kept
+abbrev pub shapeIsRight : Store → List Bool → Bool → List ℕ → Bool
+shapeIsRight store listed kept bytes =
     (storeIsRight store bytes && listingIsRight (store .made) listed (drop (store .made * 56 + 1) bytes))
     && flagIsAt kept (drop (store .made * 56 + 1) bytes) (store .made)
+
+-- whether a position is the one that bytes begin with
+abbrev pub positionIsRight : Position → List ℕ → Bool
+positionIsRight position bytes =
+    hasBits (position .x) (numberAt 8 bytes 0) && (hasBits (position .y) (numberAt 8 bytes 8) && hasBits (position .z) (numberAt 8 bytes 16))
+
+-- whether bytes begin with the first so many positions
+unfoldable pub positionsAreRight : ℕ → List Position → List ℕ → Bool
+positionsAreRight zero positions bytes = true
+positionsAreRight (suc n) positions bytes = positionsAreRight n positions bytes && positionIsRight (getD positions n noPosition) (drop (n * 24) bytes)
+
+-- whether a point's knots are those that bytes begin with: across, then upwards
+abbrev pub rowIsRight : PointKnots → List ℕ → Bool
+rowIsRight knots bytes = floatsAreRight (knots .s) bytes && floatsAreRight (knots .t) (drop 40 bytes)
+
+-- whether bytes begin with the knots of the listed points among the first so many, in the order of their numbers
+unfoldable pub rowsAreRight : ℕ → List Bool → List PointKnots → List ℕ → Bool
+rowsAreRight zero listed knots bytes = true
+rowsAreRight (suc n) listed knots bytes =
+    rowsAreRight n listed knots bytes
+    && cond (listedIn listed n) (rowIsRight (getD knots n noKnots) (drop (countBelow n (listedIn listed) * 80) bytes)) true
+
+-- where knots are kept, whether bytes begin with those of each listed point
+abbrev pub keptAreRight : Tmesh → List ℕ → Bool
+keptAreRight map bytes = cond (map .kept) (rowsAreRight (map .mesh .made) (map .mesh .listed) (map .knots) bytes) true
+
+-- how many bytes a map takes: 81 for each point made, two, and where knots are kept 80 for each point listed
+abbrev pub mapBytes : List Bool → Bool → ℕ → ℕ
+mapBytes listed kept made = cond kept (made * 81 + 2 + countBelow made (listedIn listed) * 80) (made * 81 + 2)
+
+-- whether a map is what bytes are: so many, and in them its shape, the positions of its points, and the knots kept; no map has more than 128 points
+abbrev pub mapWithRoom : Tmesh → List ℕ → Bool
+mapWithRoom map bytes =
+    (eqb (length bytes) (mapBytes (map .mesh .listed) (map .kept) (map .mesh .made)) && shapeIsRight (meshStore (map .mesh)) (map .mesh .listed) (map .kept) bytes)
+    && (positionsAreRight (map .mesh .made) (map .mesh .positions) (drop (map .mesh .made * 57 + 2) bytes) && keptAreRight map (drop (map .mesh .made * 81 + 2) bytes))
+
+unfoldable pub mapIsRight : Tmesh → List ℕ → Bool
+mapIsRight map bytes = cond (ltb 128 (map .mesh .made)) false (mapWithRoom map bytes)

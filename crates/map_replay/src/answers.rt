@@ -1,19 +1,39 @@
 // What a call on a map answered, and the map at a list's end, held against stored bytes. specs/Answers.antt says where each number stands.
 ghost use mathlib.Core.Path.{_≡_};
-ghost use Rattle.map_replay.specs.Answers.{countsAreRight, insertionJudged, floatsAreRight, outcomeIsRight, bytesTaken, rayJudged, knotsJudged, valueIsRight, evaluationJudged, flagIsAt, listingIsRight, mapIsRight};
+ghost use mathlib.Core.Bool.{true, cond};
+ghost use Prim.Native.Nat.{_≤_};
+ghost use Rattle.census.specs.Census.{countBelow, occurrences};
+ghost use Rattle.t_mesh.specs.Tmesh.{listedIn};
+ghost use Rattle.map_replay.specs.Answers.{countsAreRight, insertionJudged, floatsAreRight, outcomeIsRight, bytesTaken, rayJudged, knotsJudged, valueIsRight, evaluationJudged, generationJudged, standsRight, sidesStandRight, openingsStandRight, openingsJudged, flagIsAt, listingIsRight, positionIsRight, positionsAreRight, rowIsRight, rowsAreRight, shapeIsRight, keptAreRight, mapBytes, mapIsRight};
 use big_endian::after;
 use big_endian::byte_at;
+use big_endian::pair_at;
+use census::census::Openings;
 use control_point::refusal::Outcome;
 use control_point::sides::wide;
 use insertion::insertion::InsertAnswer;
 use ray::knots::KnotsAnswer;
+use ray::knots::PointKnots;
 use store::store::Store;
 use stored_calls::points::both;
 use stored_calls::points::float_is_at;
 use stored_calls::points::store_is_right;
 use surface::evaluation::Evaluation;
 use surface::evaluation::EvaluationAnswer;
+use t_mesh::t_mesh::Position;
+use t_mesh::t_mesh::Tmesh;
 use t_mesh::t_mesh::is_listed;
+use t_mesh::t_mesh::store_of;
+
+const CAPACITY: u8 = 128;
+
+// No list of openings is longer.
+const MOST_OPENINGS: u16 = 512;
+
+const POSITION_BYTES: usize = 24;
+
+// A row is five knots across and five upwards.
+const ROW_BYTES: usize = 80;
 
 // Whether a call answered what is stored, and how many bytes it takes.
 pub struct Judged {
@@ -133,6 +153,99 @@ pub fn judge_evaluation(answer: EvaluationAnswer, call: &[u8]) -> Judged
     }
 }
 
+// The knots of all listed points: the number.
+pub fn judge_generation(outcome: Outcome, call: &[u8]) -> Judged
+    ensures { λ r. ⌜ r ≡ generationJudged outcome (now (call .entry)) ⌝ }
+{
+    Judged {
+        right: outcome.number() == byte_at(call, 1),
+        bytes: 2,
+    }
+}
+
+// 1 where it holds, else 0.
+fn one_where(holds: bool) -> usize
+    ensures { λ r. ⌜ r ≡ cond holds 1 0 ⌝ }
+{
+    if holds {
+        return 1;
+    }
+    0
+}
+
+// How often a side stands in a list of openings.
+fn times_listed(openings: Openings, n: u8, direction: u8) -> usize
+    requires { ⌜ openings .count ≤ 512 ⌝ }
+    ensures { λ r. ⌜ r ≡ occurrences openings n direction ⌝ }
+{
+    let count = openings.count as usize;
+    let mut times: usize = 0;
+    let mut i: usize = 0;
+    while i < count {
+        let point = openings.points[i];
+        let side = openings.directions[i];
+        times += one_where(both(point == n, side == direction));
+        i += 1;
+    }
+    times
+}
+
+// Whether a side stands as often as stored: once where it is an opening.
+fn stands_right(openings: Openings, n: u8, direction: u8, bytes: &[u8]) -> bool
+    requires { ⌜ openings .count ≤ 512 ⌝ }
+    ensures { λ r. ⌜ r ≡ standsRight openings n direction (now (bytes .entry)) ⌝ }
+{
+    let stored = wide(byte_at(bytes, wide(direction)));
+    times_listed(openings, n, direction) == stored
+}
+
+fn sides_stand_right(openings: Openings, n: u8, bytes: &[u8]) -> bool
+    requires { ⌜ openings .count ≤ 512 ⌝ }
+    ensures { λ r. ⌜ r ≡ sidesStandRight openings n (now (bytes .entry)) ⌝ }
+{
+    let up = stands_right(openings, n, 0, bytes);
+    let right = stands_right(openings, n, 1, bytes);
+    let down = stands_right(openings, n, 2, bytes);
+    let left = stands_right(openings, n, 3, bytes);
+    both(both(up, right), both(down, left))
+}
+
+// Whether the sides of each point made stand as often as the bytes say.
+fn openings_stand_right(openings: Openings, made: u8, bytes: &[u8]) -> bool
+    requires { ⌜ openings .count ≤ 512 ⌝ }
+    ensures { λ r. ⌜ r ≡ openingsStandRight made openings (now (bytes .entry)) ⌝ }
+{
+    let mut right = true;
+    let mut n: u8 = 0;
+    while n < made {
+        right = both(
+            right,
+            sides_stand_right(openings, n, after(bytes, wide(n) * 4)),
+        );
+        n += 1;
+    }
+    right
+}
+
+// A list of openings, in any order: how many there are, and which.
+pub fn judge_openings(openings: Openings, made: u8, call: &[u8]) -> Judged
+    ensures { λ r. ⌜ r ≡ openingsJudged openings made (now (call .entry)) ⌝ }
+{
+    let bytes = wide(made) * 4 + 3;
+    if MOST_OPENINGS < openings.count {
+        return Judged {
+            right: false,
+            bytes,
+        };
+    }
+    let counted = openings.count as usize == pair_at(call, 1);
+    let right = both(
+        counted,
+        openings_stand_right(openings, made, after(call, 3)),
+    );
+    Judged { right, bytes }
+}
+
 // Whether a byte says what a flag is.
 fn flag_is_at(flag: bool, bytes: &[u8], at: usize) -> bool
     ensures { λ r. ⌜ r ≡ flagIsAt flag (now (bytes .entry)) at ⌝ }
@@ -156,13 +269,134 @@ fn listing_is_right(listed: [bool; 128], made: u8, bytes: &[u8]) -> bool
     right
 }
 
-// Whether a map is the one that the bytes begin with: its store, its listing, and whether knots are kept.
-pub fn map_is_right(store: Store, listed: [bool; 128], kept: bool, bytes: &[u8]) -> bool
-    ensures { λ r. ⌜ r ≡ mapIsRight store listed kept (now (bytes .entry)) ⌝ }
+// Whether a position is the one that the bytes begin with.
+fn position_is_right(position: Position, bytes: &[u8]) -> bool
+    ensures { λ r. ⌜ r ≡ positionIsRight position (now (bytes .entry)) ⌝ }
+{
+    let x = float_is_at(position.x, bytes, 0);
+    let y = float_is_at(position.y, bytes, 8);
+    both(x, both(y, float_is_at(position.z, bytes, 16)))
+}
+
+// Whether the bytes begin with the position of each point made.
+fn positions_are_right(positions: [Position; 128], made: u8, bytes: &[u8]) -> bool
+    requires { ⌜ made ≤ 128 ⌝ }
+    ensures { λ r. ⌜ r ≡ positionsAreRight made positions (now (bytes .entry)) ⌝ }
+{
+    let mut right = true;
+    let mut n: usize = 0;
+    while n < wide(made) {
+        let position = positions[n];
+        right = both(
+            right,
+            position_is_right(position, after(bytes, n * POSITION_BYTES)),
+        );
+        n += 1;
+    }
+    right
+}
+
+// Whether a point's knots are those that the bytes begin with.
+fn row_is_right(knots: PointKnots, bytes: &[u8]) -> bool
+    ensures { λ r. ⌜ r ≡ rowIsRight knots (now (bytes .entry)) ⌝ }
+{
+    let s = knots.s;
+    let t = knots.t;
+    both(
+        floats_are_right(&s, bytes),
+        floats_are_right(&t, after(bytes, 40)),
+    )
+}
+
+// A listed point's knots are stored, another's are not.
+fn listed_row_is_right(listed: bool, knots: PointKnots, bytes: &[u8]) -> bool
+    ensures { λ r. ⌜ r ≡ cond listed (rowIsRight knots (now (bytes .entry))) true ⌝ }
+{
+    if listed {
+        return row_is_right(knots, bytes);
+    }
+    true
+}
+
+// How many numbers below one are listed.
+fn listed_below(listed: [bool; 128], n: u8) -> usize
+    ensures value { λ r. ⌜ r ≡ countBelow n (listedIn listed) ⌝ }
+    ensures bound { λ r. ⌜ r ≤ n ⌝ }
+{
+    let mut count: usize = 0;
+    let mut i: u8 = 0;
+    while i < n {
+        count += one_where(is_listed(listed, i));
+        i += 1;
+    }
+    count
+}
+
+// Whether the bytes begin with the knots of each listed point.
+fn rows_are_right(listed: [bool; 128], knots: [PointKnots; 128], made: u8, bytes: &[u8]) -> bool
+    requires { ⌜ made ≤ 128 ⌝ }
+    ensures { λ r. ⌜ r ≡ rowsAreRight made listed knots (now (bytes .entry)) ⌝ }
+{
+    let mut right = true;
+    let mut n: u8 = 0;
+    while n < made {
+        let row = knots[n as usize];
+        let place = listed_below(listed, n) * ROW_BYTES;
+        let own = listed_row_is_right(is_listed(listed, n), row, after(bytes, place));
+        right = both(right, own);
+        n += 1;
+    }
+    right
+}
+
+// Whether the bytes begin with a store, a listing, and whether knots are kept.
+fn shape_is_right(store: Store, listed: [bool; 128], kept: bool, bytes: &[u8]) -> bool
+    ensures { λ r. ⌜ r ≡ shapeIsRight store listed kept (now (bytes .entry)) ⌝ }
 {
     let made = store.made;
     let points = store_is_right(store, bytes);
     let flags = after(bytes, wide(made) * 56 + 1);
     let listing = listing_is_right(listed, made, flags);
     both(both(points, listing), flag_is_at(kept, flags, wide(made)))
+}
+
+// Where knots are kept, whether the bytes begin with those of each listed point.
+fn kept_are_right(map: Tmesh, bytes: &[u8]) -> bool
+    requires { ⌜ map .mesh .made ≤ 128 ⌝ }
+    ensures { λ r. ⌜ r ≡ keptAreRight map (now (bytes .entry)) ⌝ }
+{
+    let listed = map.mesh.listed;
+    let knots = map.knots;
+    if map.kept {
+        return rows_are_right(listed, knots, map.mesh.made, bytes);
+    }
+    true
+}
+
+// How many bytes a map takes.
+fn map_bytes(listed: [bool; 128], kept: bool, made: u8) -> usize
+    ensures { λ r. ⌜ r ≡ mapBytes listed kept made ⌝ }
+{
+    let bytes = wide(made) * 81 + 2;
+    if kept {
+        return bytes + listed_below(listed, made) * ROW_BYTES;
+    }
+    bytes
+}
+
+// Whether a map is what the bytes are, and nothing stands behind it: its shape, the positions of its points, and the knots kept.
+pub fn map_is_right(map: Tmesh, bytes: &[u8]) -> bool
+    ensures { λ r. ⌜ r ≡ mapIsRight map (now (bytes .entry)) ⌝ }
+{
+    let made = map.mesh.made;
+    if CAPACITY < made {
+        return false;
+    }
+    let listed = map.mesh.listed;
+    let positions = map.mesh.positions;
+    let whole = bytes.len() == map_bytes(listed, map.kept, made);
+    let shape = shape_is_right(store_of(map.mesh), listed, map.kept, bytes);
+    let placed = positions_are_right(positions, made, after(bytes, wide(made) * 57 + 2));
+    let kept = kept_are_right(map, after(bytes, wide(made) * 81 + 2));
+    both(both(whole, shape), both(placed, kept))
 }

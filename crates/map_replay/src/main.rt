@@ -6,8 +6,10 @@ mod answers;
 
 use crate::answers::Judged;
 use crate::answers::judge_evaluation;
+use crate::answers::judge_generation;
 use crate::answers::judge_insertion;
 use crate::answers::judge_knots;
+use crate::answers::judge_openings;
 use crate::answers::judge_ray;
 use crate::answers::map_is_right;
 use big_endian::after;
@@ -17,8 +19,11 @@ use big_endian::pair_at;
 use control_point::sides::wide;
 use control_point::small::closeness;
 use control_point::t_mesh_direction::TmeshDirection;
+use evaluation::evaluation::set_point;
 use evaluation::evaluation::subs;
+use knot_vectors::knots::generate_knot_vectors;
 use map_insertion::add_control_point;
+use openings::openings::openings;
 use ray::knots::point_knot_vectors;
 use ray::ray::cast_ray;
 use replay::Outcome;
@@ -29,9 +34,11 @@ use replay::outcome_of;
 use store::store::Store;
 use stored_calls::call::replay_call;
 use stored_calls::points::both;
+use surface::evaluation::EvaluationAnswer;
 use t_mesh::t_mesh::Position;
 use t_mesh::t_mesh::Tmesh;
 use t_mesh::t_mesh::store_of;
+use t_mesh::t_mesh::with_store;
 
 // More lists than the file holds: the loop ends with the file.
 const MOST_LISTS: u64 = 1000000;
@@ -43,7 +50,13 @@ const INSERTION: u8 = 0;
 
 const RAY: u8 = 1;
 
-const EVALUATION: u8 = 3;
+const KNOTS: u8 = 2;
+
+const GENERATION: u8 = 4;
+
+const OPENINGS: u8 = 5;
+
+const SET_POINT: u8 = 7;
 
 // The first of the kinds that are direct calls.
 const DIRECT: u8 = 16;
@@ -98,6 +111,38 @@ fn replay_evaluation(call: &[u8], map: Tmesh) -> MapReplayed {
     }
 }
 
+// What an evaluation answers as a set-point.
+fn set_point_of(answer: EvaluationAnswer) -> EvaluationAnswer {
+    match answer {
+        EvaluationAnswer::Is(value) => set_point(value),
+        EvaluationAnswer::Refused(refusal) => EvaluationAnswer::Refused(refusal),
+    }
+}
+
+fn replay_set_point(call: &[u8], map: Tmesh) -> MapReplayed {
+    let evaluated = subs(map, float_at(call, 1), float_at(call, 9));
+    let answer = evaluated.answer;
+    let judged = judge_evaluation(set_point_of(answer), call);
+    let next = evaluated.map;
+    MapReplayed {
+        map: next,
+        right: judged.right,
+        bytes: judged.bytes,
+    }
+}
+
+fn replay_generation(call: &[u8], map: Tmesh) -> MapReplayed {
+    let generated = generate_knot_vectors(map);
+    let outcome = generated.outcome;
+    let judged = judge_generation(outcome, call);
+    let next = generated.map;
+    MapReplayed {
+        map: next,
+        right: judged.right,
+        bytes: judged.bytes,
+    }
+}
+
 fn ray_into(call: &[u8], store: Store, buffer: &mut [f64]) -> Judged {
     let direction = TmeshDirection::numbered(byte_at(call, 2));
     let outcome = cast_ray(closeness(), store, byte_at(call, 1), direction, buffer);
@@ -117,10 +162,14 @@ fn replay_ray(call: &[u8], store: Store) -> Judged {
     ray_into(call, store, &mut buffer[0..length])
 }
 
-// A call that leaves the map as it is: a ray, or a point's knots.
+// A call that leaves the map as it is: a ray, a point's knots, or the openings.
 fn replay_reading(kind: u8, call: &[u8], store: Store) -> Judged {
     if kind == RAY {
         return replay_ray(call, store);
+    }
+    if kind == OPENINGS {
+        let made = store.made;
+        return judge_openings(openings(store), made, call);
     }
     judge_knots(
         point_knot_vectors(closeness(), store, byte_at(call, 1)),
@@ -129,19 +178,31 @@ fn replay_reading(kind: u8, call: &[u8], store: Store) -> Judged {
 }
 
 // A call on the map's points: knots that are kept stay kept.
-fn replay_direct(kind: u8, call: &[u8], mut map: Tmesh) -> MapReplayed {
-    let mut mesh = map.mesh;
-    let replayed = replay_call(kind, call, store_of(mesh));
-    let next = replayed.store;
-    let points = next.points;
-    mesh.points = points;
-    mesh.made = next.made;
-    map.mesh = mesh;
+fn replay_direct(kind: u8, call: &[u8], map: Tmesh) -> MapReplayed {
+    let replayed = replay_call(kind, call, store_of(map.mesh));
+    let store = replayed.store;
+    let next = with_store(map, store);
     MapReplayed {
-        map,
+        map: next,
         right: replayed.right,
         bytes: replayed.bytes,
     }
+}
+
+// A call that asks for a value, or builds the knots of all listed points.
+fn replay_value(kind: u8, call: &[u8], map: Tmesh) -> MapReplayed {
+    if kind == SET_POINT {
+        return replay_set_point(call, map);
+    }
+    if kind == GENERATION {
+        return replay_generation(call, map);
+    }
+    replay_evaluation(call, map)
+}
+
+// Whether a call of a kind leaves the map as it is.
+fn is_reading(kind: u8) -> bool {
+    kind == RAY || kind == KNOTS || kind == OPENINGS
 }
 
 fn replay(kind: u8, call: &[u8], map: Tmesh) -> MapReplayed {
@@ -151,8 +212,8 @@ fn replay(kind: u8, call: &[u8], map: Tmesh) -> MapReplayed {
     if kind == INSERTION {
         return replay_insertion(call, map);
     }
-    if kind == EVALUATION {
-        return replay_evaluation(call, map);
+    if !is_reading(kind) {
+        return replay_value(kind, call, map);
     }
     let judged = replay_reading(kind, call, store_of(map.mesh));
     MapReplayed {
@@ -177,7 +238,7 @@ fn new_map(list: &[u8]) -> Tmesh {
     )
 }
 
-// Whether every call of a list answers what is stored, and the last leaves the map that is stored. A list that ends within its calls is wrong.
+// Whether every call of a list answers what is stored, the last leaves the map that is stored, and nothing stands behind it. A list that ends within its calls is wrong.
 fn is_right(list: &[u8]) -> bool {
     let mut map = new_map(list);
     let mut right = true;
@@ -198,12 +259,7 @@ fn is_right(list: &[u8]) -> bool {
         map = next;
         left -= 1;
     }
-    let store = store_of(map.mesh);
-    let listed = map.mesh.listed;
-    both(
-        right,
-        map_is_right(store, listed, map.kept, after(list, at)),
-    )
+    both(right, map_is_right(map, after(list, at)))
 }
 
 // Fills so many bytes of a buffer, or says that there are no more.
@@ -221,11 +277,16 @@ fn judged(buffer: &[u8], bytes: usize) -> Outcome {
     Outcome::Wrong
 }
 
+// The next list, judged; one that the file ends within is wrong.
 fn next_outcome(descriptor: i32) -> Outcome {
     let mut length = [0u8; 2];
     let mut list = io::large_buffer();
-    if !fill(descriptor, &mut length, 2) {
+    let read = io::read_full(descriptor, &mut length);
+    if read == 0 {
         return Outcome::End;
+    }
+    if read < 2 {
+        return Outcome::Wrong;
     }
     let bytes = pair_at(&length, 0);
     if !fill(descriptor, &mut list, bytes) {

@@ -10,12 +10,11 @@ use lib.Seq.{drop-drop}
 use Rattle.store.specs.declared.store.Store.{Store}
 use Rattle.stored_calls.specs.Call.{replayCall}
 use Rattle.stored_calls.specs.CallLaws.{call-short}
-use Rattle.stored_calls.specs.Points.{storeIsRight}
 use Rattle.stored_calls.specs.declared.call.Replayed.{Replayed}
 use Rattle.big_endian.specs.BigEndian.{byteAt}
-use Rattle.store_replay.specs.List.{onward, callsAreRight}
+use Rattle.store_replay.specs.List.{onward, isStore, callsAreRight}
 
-pub calls-none : (bytes : List ℕ) (store : Store) (right : Bool) → callsAreRight 0 bytes store right ≡ (right && storeIsRight store bytes)
+pub calls-none : (bytes : List ℕ) (store : Store) (right : Bool) → callsAreRight 0 bytes store right ≡ (right && isStore store bytes)
 unfolding callsAreRight
 calls-none bytes store right = refl
 

@@ -1,14 +1,16 @@
 // Replays the stored lists of direct calls on a store, and says how many came out right. oracle/README.md has the format of data/cases.
 ghost use mathlib.Core.Path.{_≡_};
-ghost use Rattle.store_replay.specs.List.{isRight};
+ghost use Rattle.store_replay.specs.List.{isStore, isRight};
 use big_endian::after;
 use big_endian::byte_at;
 use big_endian::pair_at;
+use control_point::sides::wide;
 use replay::Outcome;
 use replay::Tally;
 use replay::count_outcome;
 use replay::is_end;
 use replay::outcome_of;
+use store::store::Store;
 use store::store::empty_store;
 use stored_calls::call::replay_call;
 use stored_calls::points::both;
@@ -16,6 +18,14 @@ use stored_calls::points::store_is_right;
 
 // More lists than the file holds: the loop ends with the file.
 const MOST_LISTS: u64 = 1000000;
+
+// Whether bytes are a store, and nothing stands behind it.
+fn is_store(store: Store, bytes: &[u8]) -> bool
+    ensures { λ r. ⌜ r ≡ isStore store (now (bytes .entry)) ⌝ }
+{
+    let whole = bytes.len() == wide(store.made) * 56 + 1;
+    both(whole, store_is_right(store, bytes))
+}
 
 // Whether every call of a list answers what is stored, and the last leaves the store that is stored.
 fn is_right(list: &[u8]) -> bool
@@ -34,7 +44,7 @@ fn is_right(list: &[u8]) -> bool
         store = next;
         left -= 1;
     }
-    both(right, store_is_right(store, after(list, at)))
+    both(right, is_store(store, after(list, at)))
 }
 
 // Fills so many bytes of a buffer, or says that there are no more.
@@ -52,11 +62,16 @@ fn judged(buffer: &[u8], bytes: usize) -> Outcome {
     Outcome::Wrong
 }
 
+// The next list, judged; one that the file ends within is wrong.
 fn next_outcome(descriptor: i32) -> Outcome {
     let mut length = [0u8; 2];
     let mut list = io::large_buffer();
-    if !fill(descriptor, &mut length, 2) {
+    let read = io::read_full(descriptor, &mut length);
+    if read == 0 {
         return Outcome::End;
+    }
+    if read < 2 {
+        return Outcome::Wrong;
     }
     let bytes = pair_at(&length, 0);
     if !fill(descriptor, &mut list, bytes) {

@@ -53,9 +53,6 @@ loop-less c = search needs
 loop-again : tie.Need-loop-again Inv-loop μ-loop
 loop-again c = search needs
 
-store-of-requires : tie.Need-store-of-requires Inv-loop μ-loop
-store-of-requires c κs = search needs
-
 after-requires-2 : tie.Need-after-requires-2 Inv-loop μ-loop
 after-requires-2 c κs = search needs
 
@@ -88,7 +85,6 @@ is-right-spec =
     sub-left
     loop-less
     loop-again
-    store-of-requires
     after-requires-2
     map-is-right-requires
     both-requires-2

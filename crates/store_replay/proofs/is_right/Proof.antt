@@ -64,14 +64,14 @@ loop-again c = let k = c .before .before .before in let l = k .before .before .b
 after-requires-2 : tie.Need-after-requires-2 Inv-loop μ-loop
 after-requires-2 c κs = search needs
 
-store-is-right-requires : tie.Need-store-is-right-requires Inv-loop μ-loop
-store-is-right-requires c κs = search needs
+is-store-requires : tie.Need-is-store-requires Inv-loop μ-loop
+is-store-requires c κs = search needs
 
 both-requires-2 : tie.Need-both-requires-2 Inv-loop μ-loop
 both-requires-2 c κs = search needs
 
 returns : tie.Need-returns Inv-loop μ-loop
-returns c = let l = c .before .before .before .before .loop in let list = c .before .before .before .before .before .before .before .before .args .list .now in let none : 0 ≡ l .left = omega arith in rw (c .both2 .ensures, c .before .store-is-right .ensures, c .before .before .after2 .ensures) (sym (calls-none (drop (l .at) list) (l .store) (l .right)) ∙ ap (λ (left : ℕ). callsAreRight left (drop (l .at) list) (l .store) (l .right)) none ∙ l .inv .1)
+returns c = let l = c .before .before .before .before .loop in let list = c .before .before .before .before .before .before .before .before .args .list .now in let none : 0 ≡ l .left = omega arith in rw (c .both2 .ensures, c .before .is-store .ensures, c .before .before .after2 .ensures) (sym (calls-none (drop (l .at) list) (l .store) (l .right)) ∙ ap (λ (left : ℕ). callsAreRight left (drop (l .at) list) (l .store) (l .right)) none ∙ l .inv .1)
 
 pub is-right-spec : {M : Type 1} → statement M
 is-right-spec =
@@ -91,6 +91,6 @@ is-right-spec =
     loop-less
     loop-again
     after-requires-2
-    store-is-right-requires
+    is-store-requires
     both-requires-2
     returns)
