@@ -16,12 +16,15 @@ use big_endian::after;
 use big_endian::byte_at;
 use big_endian::float_at;
 use big_endian::pair_at;
+use control_point::refusal::Outcome as Settled;
 use control_point::sides::wide;
 use control_point::small::closeness;
 use control_point::t_mesh_direction::TmeshDirection;
 use evaluation::evaluation::set_point;
 use evaluation::evaluation::subs;
 use knot_vectors::knots::generate_knot_vectors;
+use lent_surface::lend;
+use lent_surface::lent_value;
 use map_insertion::add_control_point;
 use openings::openings::openings;
 use ray::knots::point_knot_vectors;
@@ -34,6 +37,7 @@ use replay::outcome_of;
 use store::store::Store;
 use stored_calls::call::replay_call;
 use stored_calls::points::both;
+use surface::evaluation::Evaluation;
 use surface::evaluation::EvaluationAnswer;
 use t_mesh::t_mesh::Position;
 use t_mesh::t_mesh::Tmesh;
@@ -55,6 +59,8 @@ const KNOTS: u8 = 2;
 const GENERATION: u8 = 4;
 
 const OPENINGS: u8 = 5;
+
+const LENT: u8 = 6;
 
 const SET_POINT: u8 = 7;
 
@@ -131,6 +137,35 @@ fn replay_set_point(call: &[u8], map: Tmesh) -> MapReplayed {
     }
 }
 
+// The value of a map that was lent, or why it was not.
+fn lent_answer(outcome: Settled, value: Evaluation) -> EvaluationAnswer {
+    match outcome {
+        Settled::Done => EvaluationAnswer::Is(value),
+        Settled::Refused(refusal) => EvaluationAnswer::Refused(refusal),
+    }
+}
+
+// The arrays start with every number listed, so that what lending leaves in them is seen.
+fn replay_lent(call: &[u8], map: Tmesh) -> MapReplayed {
+    let row = [1.0; 5];
+    let place = [1.0; 3];
+    let mut across = [row; 128];
+    let mut upwards = [row; 128];
+    let mut positions = [place; 128];
+    let mut listed = [true; 128];
+    let lent = lend(&mut across, &mut upwards, &mut positions, &mut listed, map);
+    let s = float_at(call, 1);
+    let value = lent_value(&across, &upwards, &positions, &listed, s, float_at(call, 9));
+    let outcome = lent.outcome;
+    let judged = judge_evaluation(lent_answer(outcome, value), call);
+    let next = lent.map;
+    MapReplayed {
+        map: next,
+        right: judged.right,
+        bytes: judged.bytes,
+    }
+}
+
 fn replay_generation(call: &[u8], map: Tmesh) -> MapReplayed {
     let generated = generate_knot_vectors(map);
     let outcome = generated.outcome;
@@ -196,6 +231,9 @@ fn replay_value(kind: u8, call: &[u8], map: Tmesh) -> MapReplayed {
     }
     if kind == GENERATION {
         return replay_generation(call, map);
+    }
+    if kind == LENT {
+        return replay_lent(call, map);
     }
     replay_evaluation(call, map)
 }
