@@ -4,7 +4,7 @@ use mathlib.Core.Path.{_≡_, _∙_, sym, ap}
 use borrow.Author.Needs.{needs}
 use denote.Ref.{now}
 use lib.Ieee.{Float, binary64, ofBits}
-use Rattle.control_point.specs.Direction.{clockwiseOf, antiClockwiseOf}
+use Rattle.control_point.specs.Direction.{antiClockwiseOf}
 use Rattle.control_point.specs.Sides.{Sides, lentSides}
 use Rattle.control_point.specs.ToldLaws.{beside}
 use Rattle.navigation.specs.Walk.{walkOf}
