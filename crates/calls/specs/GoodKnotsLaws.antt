@@ -114,7 +114,7 @@ module _ (sides : Sides) (good : GoodSides sides) (made : ℕ) (d : TmeshDirecti
         after (Is value next) h rest k = in-front value (rest next) h (k next)
         after (NoEntry refusal) h rest k = tt
 
-    ray-entries : (start n : ℕ) → GoodRay (rayOf e sides made start d n)
+    pub ray-entries : (start n : ℕ) → GoodRay (rayOf e sides made start d n)
     unfolding rayOf
     ray-entries start n = cond-case (isMade made start) GoodRay _ _ (λ _. entries-from n _) (λ _. tt)
 

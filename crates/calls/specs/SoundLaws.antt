@@ -87,7 +87,7 @@ four-sides up right down left s t u r d l f g = record { sides = each; s-fits = 
     each Down = d
     each Left = l
 
-corner-store : (weight : Float) → NotNegative weight → GoodStore (cornerStore weight)
+pub corner-store : (weight : Float) → NotNegative weight → GoodStore (cornerStore weight)
 corner-store weight h zero = four-sides _ _ _ _ _ _ one-not-negative one-not-negative h h zero-fits zero-fits
 corner-store weight h (suc zero) = four-sides _ _ _ _ _ _ one-not-negative h h one-not-negative one-fits zero-fits
 corner-store weight h (suc (suc zero)) = four-sides _ _ _ _ _ _ h h one-not-negative one-not-negative one-fits one-fits

@@ -16,3 +16,5 @@ pub mod NoPointNeverProof
 pub mod RefusedKeepsMapProof
 pub mod OnlyDoneDropsProof
 pub mod RejoinedIsSixProof
+pub mod KnotsPass
+pub mod KnotsPassProof

@@ -13,7 +13,7 @@ generate-knot-vectors-requires : tie.Need-generate-knot-vectors-requires
 generate-knot-vectors-requires c κs = search needs
 
 returns-2 : tie.Need-returns-2
-returns-2 c = ready-built millionth (c .before .before .args .map) _ _ (c .generate-knot-vectors .result) (c .generate-knot-vectors .ensures) (c .before .if1 .left) refl refl
+returns-2 c = ready-built millionth (c .before .before .args .map) _ _ (c .generate-knot-vectors .result) (c .generate-knot-vectors .ensures .0) (c .before .if1 .left) refl refl
 
 pub with-knots-spec : {M : Type 1} → statement M
 with-knots-spec = tie.close (tie.spec returns generate-knot-vectors-requires returns-2)
