@@ -16,16 +16,16 @@ answer-by : (outcome : Outcome) (own : Tmesh) (s t : Float) → answerBy outcome
 answer-by Done own s t = ap (answerBy Done) (sym (lent-value own s t))
 answer-by (Refused refusal) own s t = refl
 
-whatever : (e : Float) (map : Tmesh) (s t : Float)
+subs-lent : (e : Float) (map : Tmesh) (s t : Float)
     → subsOf e map s t ≡ record { answer = answerBy (lendOf e map .0 .outcome) (valueOf (heldBy (lendOf e map .1)) s t); map = lendOf e map .0 .map }
 unfolding subsOf lendOf
-whatever e map s t =
+subs-lent e map s t =
     ap (λ (x : EvaluationAnswer). record { answer = x; map = withKnots e map .map }) (answer-by (withKnots e map .outcome) (withKnots e map .map) s t)
 
-pub lending-is-subs : LendingIsSubs
-lending-is-subs e map s t =
-    record {
-      lent-subs = whatever e map s t;
-      lent-value-is = λ done.
-          ap (λ (x : Evaluated). x .answer) (whatever e map s t) ∙ ap (λ (x : Outcome). answerBy x (valueOf (heldBy (lendOf e map .1)) s t)) done;
-    }
+answered : (e : Float) (map : Tmesh) (s t : Float) (outcome : Outcome) → lendOf e map .0 .outcome ≡ outcome → subsOf e map s t .answer ≡ answerBy outcome (valueOf (heldBy (lendOf e map .1)) s t)
+answered e map s t outcome same =
+    ap (λ (x : Evaluated). x .answer) (subs-lent e map s t) ∙ ap (λ (x : Outcome). answerBy x (valueOf (heldBy (lendOf e map .1)) s t)) same
+
+pub lendingIsSubs : LendingIsSubs
+lendingIsSubs e map s t =
+    record { lent-subs = subs-lent e map s t; lent-value-is = λ done. answered e map s t Done done; refused-alike = λ refusal refused. answered e map s t (Refused refusal) refused }
