@@ -26,6 +26,6 @@ answered : (e : Float) (map : Tmesh) (s t : Float) (outcome : Outcome) → lendO
 answered e map s t outcome same =
     ap (λ (x : Evaluated). x .answer) (subs-lent e map s t) ∙ ap (λ (x : Outcome). answerBy x (valueOf (heldBy (lendOf e map .1)) s t)) same
 
-pub lendingIsSubs : LendingIsSubs
-lendingIsSubs e map s t =
+pub lending-is-subs : LendingIsSubs
+lending-is-subs e map s t =
     record { lent-subs = subs-lent e map s t; lent-value-is = λ done. answered e map s t Done done; refused-alike = λ refusal refused. answered e map s t (Refused refusal) refused }

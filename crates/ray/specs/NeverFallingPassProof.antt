@@ -21,11 +21,11 @@ placed-first u (v ∷ rest) h = by-test (comesBefore v u) (le→nlt v u h)
     by-test true k = absurd k
     by-test false k = refl
 
-pub neverFallingPass : NeverFallingPass
+pub never-falling-pass : NeverFallingPass
 unfolding sorted neverFalls
-neverFallingPass [] h = refl
-neverFallingPass (u ∷ rest) h =
-    ap (placed u) (neverFallingPass rest (and-r (firstAtLeast u rest) (neverFalls rest) h)) ∙ placed-first u rest (and-l (firstAtLeast u rest) (neverFalls rest) h)
+never-falling-pass [] h = refl
+never-falling-pass (u ∷ rest) h =
+    ap (placed u) (never-falling-pass rest (and-r (firstAtLeast u rest) (neverFalls rest) h)) ∙ placed-first u rest (and-l (firstAtLeast u rest) (neverFalls rest) h)
 
 -- ---- what is sorted never falls
 -- where w is at most a knot, and at most the first of others, it is at most the first with that knot put among them
@@ -65,15 +65,15 @@ unfolding sorted allNumbers
 sorted-numbers [] h = tt
 sorted-numbers (u ∷ rest) h = placed-numbers u (and-l (not (isNan u)) (allNumbers rest) h) (sorted rest) (sorted-numbers rest (and-r (not (isNan u)) (allNumbers rest) h))
 
-pub sortedNeverFalls : SortedNeverFalls
+pub sorted-never-falls : SortedNeverFalls
 unfolding sorted neverFalls allNumbers
-sortedNeverFalls [] h = tt
-sortedNeverFalls (u ∷ rest) h =
+sorted-never-falls [] h = tt
+sorted-never-falls (u ∷ rest) h =
     placed-never-falls u (and-l (not (isNan u)) (allNumbers rest) h) (sorted rest)
     (sorted-numbers rest (and-r (not (isNan u)) (allNumbers rest) h))
-    (sortedNeverFalls rest (and-r (not (isNan u)) (allNumbers rest) h))
+    (sorted-never-falls rest (and-r (not (isNan u)) (allNumbers rest) h))
 
 -- ---- the examples compute
-pub sortingExamples : SortingExamples
+pub sorting-examples : SortingExamples
 unfolding sorted placed lt ofBits ofFields
-sortingExamples = record { zeros = refl; zeros-exchanged = refl; passed = refl; fallen = refl }
+sorting-examples = record { zeros = refl; zeros-exchanged = refl; passed = refl; fallen = refl }

@@ -21,7 +21,7 @@ use Rattle.store.specs.Store.{storeSides, storePoint}
 use Rattle.store.specs.declared.store.Store.{Store}
 use Rattle.ray.specs.KnotVector.{neverFalls, NeverFalls, allNumbers}
 use Rattle.ray.specs.Knots.{first, second, fiveKnots, afterRay, knotsAt, pointKnotVectors}
-use Rattle.ray.specs.NeverFallingPassProof.{neverFallingPass}
+use Rattle.ray.specs.NeverFallingPassProof.{never-falling-pass}
 use Rattle.ray.specs.Ray.{Ray, entries as values, refused, rayOf}
 use Rattle.ray.specs.declared.knots.KnotsAnswer.{KnotsAnswer}
 use Rattle.t_mesh.specs.Insertion.{addControlPoint, afterInsertion}
@@ -53,7 +53,7 @@ step-down c (inf s) h k number = sub-down binary64 c (inf s) h k number
 step-down c (fin s m e) h k number = sub-down binary64 c (fin s m e) h k number
 
 passes : (five : List Float) → (T (allNumbers five) → NeverFalls five) → Passes five
-passes five h = record { never-fall = h; unchanged = λ numbers. neverFallingPass five (h numbers) }
+passes five h = record { never-fall = h; unchanged = λ numbers. never-falling-pass five (h numbers) }
 
 -- five knots counted outward
 outward : (centre : Float) (below above : List Float) → T (fits binary64 centre) → GoodEntries below → GoodEntries above → Passes (fiveKnots centre below above)
@@ -157,8 +157,8 @@ good-fresh : (w : Float) (bottomLeft bottomRight topRight topLeft : Position) �
 unfolding newTmesh
 good-fresh w bottomLeft bottomRight topRight topLeft h = corner-store w h
 
-pub knotsPass : KnotsPass
-knotsPass e w bottomLeft bottomRight topRight topLeft calls border closeness n =
+pub knots-pass : KnotsPass
+knots-pass e w bottomLeft bottomRight topRight topLeft calls border closeness n =
     point-passes closeness (storeOf (mapAfterAll e (newTmesh w bottomLeft bottomRight topRight topLeft) (entries calls)))
     (good-list e calls (newTmesh w bottomLeft bottomRight topRight topLeft)
     (good-fresh w bottomLeft bottomRight topRight topLeft (nonneg→nonnegOrNan w (le→nonneg w border))))
