@@ -324,160 +324,41 @@ static void read_file(void)
 }
 
 /* ---- what must occur */
-static const char *const basis_parts[] = {"result", NULL};
-static const char *const store_parts[] = {"point made 0: number",
-                                          "point made 10: number",
-                                          "connect 0: number",
-                                          "connect 5: number",
-                                          "connect 7: number",
-                                          "remove_connection 0: number",
-                                          "remove_connection 3: number",
-                                          "remove_edge_condition 0: number",
-                                          "remove_edge_condition 5: number",
-                                          "set_edge_con_weight 0: number",
-                                          "set_edge_con_weight 3: number",
-                                          "set_edge_con_weight 5: number",
-                                          "set_knot_coordinates 0: number",
-                                          "set_knot_coordinates 5: number",
-                                          "walk 0: number",
-                                          "walk 3: number",
-                                          "walk 4: number",
-                                          "walk 9: number",
-                                          "walk 11: number",
-                                          "walk: point",
-                                          "walk: moves",
-                                          "walk: sum",
-                                          "points made",
-                                          "side 0: kind 0",
-                                          "side 1: kind 1",
-                                          "side 2: kind 2",
-                                          "side 3: point linked",
-                                          "side 0: interval",
-                                          "side 1: weight",
-                                          "coordinate s",
-                                          "coordinate t",
-                                          "length",
-                                          "number of calls",
-                                          NULL};
-static const char *const map_parts[] = {"insertion 0: number",
-                                        "insertion 0: opened",
-                                        "insertion 0: inferred",
-                                        "insertion 1: number",
-                                        "insertion 2: number",
-                                        "insertion 3: number",
-                                        "insertion 4: number",
-                                        "insertion 6: number",
-                                        "insertion 8: number",
-                                        "insertion 8: opened",
-                                        "insertion 8: inferred",
-                                        "insertion 10: number",
-                                        "ray 0: number",
-                                        "ray 3: number",
-                                        "ray 4: number",
-                                        "ray 9: number",
-                                        "ray 11: number",
-                                        "ray: entry 1",
-                                        "ray: entry 5",
-                                        "knots 0: number",
-                                        "knots 3: number",
-                                        "knots 4: number",
-                                        "knots 9: number",
-                                        "knots 11: number",
-                                        "knots: s1",
-                                        "knots: s5",
-                                        "knots: t1",
-                                        "knots: t5",
-                                        "evaluation 0: number",
-                                        "evaluation 3: number",
-                                        "evaluation 4: number",
-                                        "evaluation 9: number",
-                                        "evaluation: x",
-                                        "evaluation: y",
-                                        "evaluation: z",
-                                        "evaluation: weight",
-                                        "all knots 0: number",
-                                        "all knots 3: number",
-                                        "all knots 4: number",
-                                        "all knots 9: number",
-                                        "openings: count",
-                                        "openings: direction 0: 0",
-                                        "openings: direction 0: 1",
-                                        "openings: direction 3: 0",
-                                        "openings: direction 3: 1",
-                                        "lent value 0: number",
-                                        "lent value 4: number",
-                                        "lent value: x",
-                                        "lent value: weight",
-                                        "set-point 0: number",
-                                        "set-point 4: number",
-                                        "set-point 15: number",
-                                        "set-point: x",
-                                        "set-point: weight",
-                                        "point made 0: number",
-                                        "connect 0: number",
-                                        "remove_connection 0: number",
-                                        "remove_edge_condition 0: number",
-                                        "set_edge_con_weight 0: number",
-                                        "walk 0: number",
-                                        "walk: point",
-                                        "walk: moves",
-                                        "walk: sum",
-                                        "points made",
-                                        "side 0: kind 0",
-                                        "side 1: kind 1",
-                                        "side 2: kind 2",
-                                        "side 3: point linked",
-                                        "side 0: interval",
-                                        "side 1: weight",
-                                        "coordinate s",
-                                        "coordinate t",
-                                        "listed: 0",
-                                        "listed: 1",
-                                        "kept: 0",
-                                        "kept: 1",
-                                        "position: x",
-                                        "position: y",
-                                        "position: z",
-                                        "row kept: s1",
-                                        "row kept: s5",
-                                        "row kept: t1",
-                                        "row kept: t5",
-                                        "length",
-                                        "number of calls",
-                                        NULL};
-static const char *const file_parts[] = {"report: edit refused 1",
-                                         "report: edit refused 2",
-                                         "report: edit refused 3",
-                                         "report: edit refused 4",
-                                         "report: edit refused 8",
-                                         "report: edit refused 10",
-                                         "report: made",
-                                         "report: open",
-                                         "report: mid",
-                                         "report: mid refused 3",
-                                         "report: mid refused 4",
-                                         "report: mid refused 9",
-                                         "report: mid refused 15",
-                                         "report: file refused 12",
-                                         "report: file refused 13",
-                                         "report: file refused 14",
-                                         "C call 0: number",
-                                         "C call 0: buffer",
-                                         "C call 3: number",
-                                         "C call 4: number",
-                                         "C call 9: number",
-                                         "C call 12: number",
-                                         "C call 13: number",
-                                         "C call 14: number",
-                                         "C call 15: number",
-                                         "C call 15: buffer",
-                                         "C call 16: number",
-                                         "C call 16: buffer",
-                                         "length",
-                                         "length of the file",
-                                         "length of the text",
-                                         "number of C calls",
-                                         NULL};
+static const char *const basis_parts[] = {
+    "result", NULL
+};
+static const char *const store_parts[] = {
+    "point made 0: number", "point made 10: number", "connect 0: number", "connect 5: number", "connect 7: number",
+    "remove_connection 0: number", "remove_connection 3: number", "remove_edge_condition 0: number", "remove_edge_condition 5: number",
+    "set_edge_con_weight 0: number", "set_edge_con_weight 3: number", "set_edge_con_weight 5: number", "set_knot_coordinates 0: number",
+    "set_knot_coordinates 5: number", "walk 0: number", "walk 3: number", "walk 4: number", "walk 9: number", "walk 11: number",
+    "walk: point", "walk: moves", "walk: sum", "points made", "side 0: kind 0", "side 1: kind 1", "side 2: kind 2",
+    "side 3: point linked", "side 0: interval", "side 1: weight", "coordinate s", "coordinate t", "length", "number of calls", NULL
+};
+static const char *const map_parts[] = {
+    "insertion 0: number", "insertion 0: opened", "insertion 0: inferred", "insertion 1: number", "insertion 2: number",
+    "insertion 3: number", "insertion 4: number", "insertion 6: number", "insertion 8: number", "insertion 8: opened",
+    "insertion 8: inferred", "insertion 10: number", "ray 0: number", "ray 3: number", "ray 4: number", "ray 9: number", "ray 11: number",
+    "ray: entry 1", "ray: entry 5", "knots 0: number", "knots 3: number", "knots 4: number", "knots 9: number", "knots 11: number",
+    "knots: s1", "knots: s5", "knots: t1", "knots: t5", "evaluation 0: number", "evaluation 3: number", "evaluation 4: number",
+    "evaluation 9: number", "evaluation: x", "evaluation: y", "evaluation: z", "evaluation: weight", "all knots 0: number",
+    "all knots 3: number", "all knots 4: number", "all knots 9: number", "openings: count", "openings: direction 0: 0",
+    "openings: direction 0: 1", "openings: direction 3: 0", "openings: direction 3: 1", "lent value 0: number", "lent value 4: number",
+    "lent value: x", "lent value: weight", "set-point 0: number", "set-point 4: number", "set-point 15: number", "set-point: x",
+    "set-point: weight", "point made 0: number", "connect 0: number", "remove_connection 0: number", "remove_edge_condition 0: number",
+    "set_edge_con_weight 0: number", "set_knot_coordinates 0: number", "walk 0: number", "walk: point", "walk: moves", "walk: sum",
+    "points made", "side 0: kind 0", "side 1: kind 1", "side 2: kind 2", "side 3: point linked", "side 0: interval", "side 1: weight",
+    "coordinate s", "coordinate t", "listed: 0", "listed: 1", "kept: 0", "kept: 1", "position: x", "position: y", "position: z",
+    "row kept: s1", "row kept: s5", "row kept: t1", "row kept: t5", "length", "number of calls", NULL
+};
+static const char *const file_parts[] = {
+    "report: edit refused 1", "report: edit refused 2", "report: edit refused 3", "report: edit refused 4", "report: edit refused 8",
+    "report: edit refused 10", "report: made", "report: open", "report: mid", "report: mid refused 3", "report: mid refused 4",
+    "report: mid refused 9", "report: mid refused 15", "report: file refused 12", "report: file refused 13", "report: file refused 14",
+    "C call 0: number", "C call 0: buffer", "C call 3: number", "C call 4: number", "C call 9: number", "C call 12: number",
+    "C call 13: number", "C call 14: number", "C call 15: number", "C call 15: buffer", "C call 16: number", "C call 16: buffer",
+    "length", "length of the file", "length of the text", "number of C calls", NULL
+};
 
 static const struct format {
     const char *word;
@@ -581,7 +462,7 @@ static void flip(const struct part *part)
     }
 }
 
-/* All cases, with one answer flipped: the last byte of a kind of answer, a length's too where nothing follows it. */
+/* All cases, with the last byte of one answer flipped. A length is left out: with another one what follows is read as another case. */
 static void flip_among_all(const struct part *part)
 {
     uint8_t *place = stored + cases[part->number].at + part->at + part->bytes - 1;
@@ -657,11 +538,11 @@ int main(int count, char **words)
     fclose(file);
     read_cases(format);
     expect(stored, stored_bytes, case_count, 0, "all cases", 0);
-    for (size_t n = 0; n < part_count; n++)
+    for (size_t n = 0; n < part_count; n++) {
         flip(&parts[n]);
-    flip_among_all(&parts[0]);
-    flip_among_all(&parts[part_count / 2]);
-    flip_among_all(&parts[part_count - 1]);
+        if (n % 10 == 1 || n + 1 == part_count)
+            flip_among_all(&parts[n]);
+    }
     cut(format, case_to_cut());
     printf("%zu %zu\n", flips, part_count);
     return 0;

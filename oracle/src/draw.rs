@@ -92,17 +92,19 @@ pub fn place(random: &mut Random, maps: &Maps) -> (u8, usize) {
     found
 }
 
-/// A direct call on a map's points: a link cut, joined again at some interval, a weight set, a point made alone.
+/// A direct call on a map's points: a link cut, joined again at some interval, a weight set, a border opened, a point made alone, its coordinates set.
 fn direct_call(random: &mut Random, maps: &Maps) -> Call {
     let point = random.below(maps.made()) as u8;
     let other = random.below(maps.made()) as u8;
     let d = random.below(4);
     let interval = random.of(&[0.0, 0.25, 0.5, 1.0, 1.0, 1e-7, f64::INFINITY, f64::NAN]);
-    match random.below(8) {
+    match random.below(10) {
         0 => Call::Make(interval),
         1..=3 => Call::RemoveConnection(point, d),
         4 => Call::SetEdgeConWeight(point, d, random.of(&[0.0, 0.5, 1.0])),
         5 => Call::Navigate(point, d, random.below(4)),
+        6 => Call::RemoveEdgeCondition(point, d),
+        7 => Call::SetKnotCoordinates(maps.made() as u8 - 1, interval, random.of(&[0.0, 0.25, 1.0])),
         _ => {
             let open = (0..4).find(|side| maps.reading.store.side(point, *side).is_opening());
             Call::Connect(point, other, open.unwrap_or(d), interval)

@@ -110,7 +110,7 @@ fn worked_examples(random: &mut Random) -> Vec<MapList> {
     for count in 0..4 {
         fresh.call(MapCall::Ray { point: 0, direction: LEFT, count });
     }
-    for (s, t) in [(0.5, 0.5), (5.0, 0.5), (0.0, 1.0), (f64::NAN, 0.5)] {
+    for (s, t) in [(0.5, 0.5), (0.0, 1.0), (f64::NAN, 0.5)] {
         fresh.call(MapCall::Evaluate { s, t });
     }
     let MapAnswer::Evaluated(Ok(outside)) = fresh.call(MapCall::Evaluate { s: 5.0, t: 0.5 }) else { unreachable!() };
@@ -172,18 +172,19 @@ fn refused_knots() -> MapList {
     list
 }
 
-/// The same cut where no knots are kept: none are kept then either.
+/// The same cut where no knots are kept: none are kept then either. A point made alone is given coordinates.
 fn no_knots() -> MapList {
     let mut list = square();
-    list.call(MapCall::Direct(Call::RemoveConnection(0, RIGHT)));
-    list.call(MapCall::Direct(Call::RemoveConnection(3, RIGHT)));
-    let place = (0.25, 0.75);
     for call in [
-        MapCall::Generate,
-        MapCall::Evaluate { s: place.0, t: place.1 },
-        MapCall::Lend { s: place.0, t: place.1 },
-        MapCall::SetPoint { s: place.0, t: place.1 },
+        Call::RemoveConnection(0, RIGHT),
+        Call::RemoveConnection(3, RIGHT),
+        Call::Make(0.5),
+        Call::SetKnotCoordinates(4, 0.25, 0.75),
     ] {
+        assert_eq!(list.call(MapCall::Direct(call)).number(), 0);
+    }
+    let (s, t) = (0.25, 0.75);
+    for call in [MapCall::Generate, MapCall::Evaluate { s, t }, MapCall::Lend { s, t }, MapCall::SetPoint { s, t }] {
         assert_eq!(list.call(call).number(), BORDER);
     }
     list.call(MapCall::Openings);

@@ -18,7 +18,6 @@ use Rattle.t_mesh.specs.Tmesh.{listedIn}
 use Rattle.t_mesh.specs.declared.t_mesh.Position.{Position}
 use Rattle.t_mesh.specs.declared.t_mesh.Tmesh.{Tmesh}
 use Rattle.map_replay.specs.Answers.{firstAreRight, sidesStandRight, openingsStandRight, openingsAreRight, openingsJudged, flagIsAt, listingIsRight, positionIsRight, positionsAreRight, rowIsRight, rowsAreRight, mapWithRoom, mapIsRight}
-use Rattle.map_replay.specs.declared.answers.Judged.{Judged}
 
 -- no floats are the ones stored
 pub floats-none : (floats : List Float) (bytes : List ℕ) → firstAreRight 0 floats bytes ≡ true
