@@ -31,7 +31,7 @@ use t_mesh::add::is_refused;
 use t_mesh::t_mesh::Tmesh;
 use t_mesh::t_mesh::is_listed;
 
-// The map before the edits, its corners anticlockwise from bottom left.
+// The map before the edits, its corners anticlockwise from bottom left. It reads zeros past the file's end: `validate` stands before it.
 pub fn fresh_map(file: &[u8]) -> Tmesh
     ensures { λ r. ⌜ r ≡ freshMap (now (file .entry)) ⌝ }
 {
@@ -51,8 +51,8 @@ fn next_place(file: &[u8], at: usize) -> usize
     if at < file.len() { at + EDIT_BYTES } else { at }
 }
 
-// The map after so many edits of the file; the answer number of each is noted, as far as there is room. No knots are kept from the
-// start, so an edit changes nothing but the mesh, and of that its points stay lent from the first edit to the last.
+// The map after so many edits of a file that `validate` has passed; the answer number of each is noted, as far as there is room. No knots are kept
+// from the start, so an edit changes nothing but the mesh, and of that its points stay lent from the first edit to the last.
 pub fn run_edits(file: &[u8], count: usize, notes: &mut [u8]) -> Tmesh
     ensures map { λ r. ⌜ r ≡ fileMap millionth (now (file .entry)) count ⌝ }
     ensures notes { λ _. ⌜ now (notes .exit) ≡ written (now (notes .entry)) 0 (fileNumbers millionth (now (file .entry)) count) ⌝ }

@@ -50,7 +50,7 @@ pub enum FileCheck {
     Refused(Refusal),
 }
 
-// The position at a place.
+// The position at a place. Past the end zeros are read: `validate` stands before it.
 pub fn position_at(bytes: &[u8], at: usize) -> Position
     ensures { λ r. ⌜ r ≡ positionAt (now (bytes .entry)) at ⌝ }
 {
@@ -61,7 +61,7 @@ pub fn position_at(bytes: &[u8], at: usize) -> Position
     Position { x, y, z }
 }
 
-// The edit at a place.
+// The edit at a place. Past the end zeros are read, and a direction above 3 as Left: `validate` stands before it.
 pub fn edit_at(bytes: &[u8], at: usize) -> Edit
     ensures { λ r. ⌜ r ≡ editAt (now (bytes .entry)) at ⌝ }
 {

@@ -39,7 +39,7 @@ impl<'a> MapReader<'a> {
     }
 }
 
-// The edit at a place of a file.
+// The edit at a place of a file that `validate` has passed: it reads as `edit_at` does.
 pub fn edit_from(file: &[u8], at: usize) -> Edit
     ensures { λ r. ⌜ r ≡ editAt (now (file .entry)) at ⌝ }
 {

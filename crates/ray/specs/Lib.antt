@@ -1,9 +1,6 @@
 pub mod Ray
 pub mod Knots
 pub mod Table
-pub mod KnotVector
-pub mod NeverFallingPass
 pub mod RayLaws
 pub mod KnotsLaws
 pub mod TableLaws
-pub mod NeverFallingPassProof

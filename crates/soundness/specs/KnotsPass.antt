@@ -9,7 +9,7 @@ use lib.Dec.{T}
 use lib.Ieee.{Float, le}
 use Rattle.float64.specs.Sign.{0f}
 use Rattle.ray.specs.Knots.{pointKnotVectors}
-use Rattle.ray.specs.KnotVector.{sorted, NeverFalls, allNumbers}
+use Rattle.knot_sorting.specs.KnotVector.{sorted, NeverFalls, allNumbers}
 use Rattle.ray.specs.declared.knots.PointKnots.{PointKnots}
 use Rattle.t_mesh.specs.Tmesh.{storeOf, newTmesh}
 use Rattle.t_mesh.specs.declared.t_mesh.Position.{Position}

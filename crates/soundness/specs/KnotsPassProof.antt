@@ -19,9 +19,9 @@ use Rattle.insertion.specs.declared.insertion.InsertAnswer.the-variants.{Done, 
 use Rattle.mirror.specs.BoolLaws.{cond-case}
 use Rattle.store.specs.Store.{storeSides, storePoint}
 use Rattle.store.specs.declared.store.Store.{Store}
-use Rattle.ray.specs.KnotVector.{neverFalls, NeverFalls, allNumbers}
+use Rattle.knot_sorting.specs.KnotVector.{neverFalls, NeverFalls, allNumbers}
 use Rattle.ray.specs.Knots.{first, second, fiveKnots, afterRay, knotsAt, pointKnotVectors}
-use Rattle.ray.specs.NeverFallingPassProof.{never-falling-pass}
+use Rattle.knot_sorting.specs.NeverFallingPassProof.{never-falling-pass}
 use Rattle.ray.specs.Ray.{Ray, entries as values, refused, rayOf}
 use Rattle.ray.specs.declared.knots.KnotsAnswer.{KnotsAnswer}
 use Rattle.t_mesh.specs.Insertion.{addControlPoint, afterInsertion}

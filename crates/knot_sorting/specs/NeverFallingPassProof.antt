@@ -7,8 +7,8 @@ use lib.Dec.{T}
 use lib.Ieee.{Float, ofBits, ofFields, lt, le, isNan}
 use lib.Ieee.Fits.{and-l, and-r, and-i}
 use Rattle.float64.specs.Order.{nlt→le, lt→le, le→nlt}
-use Rattle.ray.specs.KnotVector.{comesBefore, placed, sorted, firstAtLeast, neverFalls, NeverFalls, allNumbers}
-use Rattle.ray.specs.NeverFallingPass.{NeverFallingPass, SortedNeverFalls, SortingExamples}
+use Rattle.knot_sorting.specs.KnotVector.{comesBefore, placed, sorted, firstAtLeast, neverFalls, NeverFalls, allNumbers}
+use Rattle.knot_sorting.specs.NeverFallingPass.{NeverFallingPass, SortedNeverFalls, SortingExamples}
 
 -- ---- what never falls passes
 -- a knot that is at most the first stands before it

@@ -5,7 +5,7 @@ use mathlib.Core.Path.{_≡_}
 use lib.Dec.{T}
 use lib.Ieee.{Float, binary64, ofBits}
 use Rattle.float64.specs.Literals.{zeroLiteral, oneLiteral}
-use Rattle.ray.specs.KnotVector.{sorted, NeverFalls, allNumbers}
+use Rattle.knot_sorting.specs.KnotVector.{sorted, NeverFalls, allNumbers}
 
 abbrev pub NeverFallingPass : Type 0
 NeverFallingPass = (list : List Float) → NeverFalls list → sorted list ≡ list

@@ -1,0 +1,3 @@
+pub mod KnotVector
+pub mod NeverFallingPass
+pub mod NeverFallingPassProof
