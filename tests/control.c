@@ -397,7 +397,8 @@ static void read_cases(const struct format *format)
     }
 }
 
-/* ---- the program What it says of some bytes. */
+/* ---- the program
+ * What it says of some bytes. */
 static void judge(const uint8_t *bytes, size_t count, char *said, size_t room)
 {
     char path[4096];

@@ -5,7 +5,7 @@ use mathlib.Core.Path.{_≡_, refl}
 use mathlib.Core.Bool.{Bool, true, false, cond, false≢true}
 use mathlib.Core.List.{List, [], _∷_}
 use lib.Dec.{T}
-use lib.Ieee.{Float, nan, inf, binary64, add, lt, fits}
+use lib.Ieee.{Float, inf, binary64, add, lt, fits}
 use lib.Ieee.Fits.{nan-fits, mul-fits}
 use lib.ListN.{getD, set, replicate}
 use Rattle.float64.specs.Literals.{zeroLiteral, oneLiteral}
@@ -21,7 +21,6 @@ use Rattle.control_point.specs.declared.refusal.Outcome.the-variants.{Done as B
 use Rattle.control_point.specs.declared.t_mesh_direction.TmeshDirection.{TmeshDirection}
 use Rattle.control_point.specs.declared.t_mesh_direction.TmeshDirection.the-variants.{Up, Right, Down, Left}
 use Rattle.control_point.specs.declared.t_mesh_control_point.Side.{Side}
-use Rattle.control_point.specs.declared.t_mesh_control_point.Side.the-variants.{Link, Border}
 use Rattle.store.specs.declared.store.Store.{Store}
 use Rattle.insertion.specs.Insert.{insertPoint}
 use Rattle.insertion.specs.declared.insertion.InsertAnswer.{InsertAnswer}

@@ -1,10 +1,9 @@
 -- The edits of a file are a list of calls on its map: the run of the edits is the run of those calls.
-use Prim.Native.Nat.{ℕ}
 use mathlib.Core.Path.{_≡_, refl}
 use mathlib.Core.List.{List, [], _∷_}
 use lib.Ieee.{Float}
 use Rattle.t_mesh.specs.declared.t_mesh.Tmesh.{Tmesh}
-use Rattle.calls.specs.Calls.{Call, insertion, mapAfter}
+use Rattle.calls.specs.Calls.{Call, insertion}
 use Rattle.soundness.specs.MapCalls.{mapAfterAll, entries}
 use Rattle.map_file.specs.Run.{edited, afterEdits}
 use Rattle.map_format.specs.declared.format.Edit.{Edit}

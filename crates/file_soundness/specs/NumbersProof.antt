@@ -1,7 +1,6 @@
 -- The C call's numbers: each test of the file has its own, an evaluation is refused 3, 4 or 9, and a set-point 15.
 use Prim.Native.Nat.{ℕ}
-use mathlib.Core.Path.{_≡_, refl, subst, sym}
-use mathlib.Core.Bool.{Bool}
+use mathlib.Core.Path.{_≡_, refl, subst}
 use mathlib.Core.List.{List, [], _∷_}
 use mathlib.Core.Logic.{inl, inr}
 use lib.Dec.{leb, eqb}
@@ -16,13 +15,12 @@ use Rattle.surface.specs.Evaluation.{evaluationNumber, weighty, setPoint, subsO
 use Rattle.surface.specs.declared.evaluation.Evaluation.{Evaluation}
 use Rattle.surface.specs.declared.evaluation.EvaluationAnswer.{EvaluationAnswer}
 use Rattle.surface.specs.declared.evaluation.EvaluationAnswer.the-variants.{Is, Refused as NoValue}
-use Rattle.calls.specs.Calls.{Call}
 use Rattle.t_mesh.specs.declared.t_mesh.Tmesh.{Tmesh}
 use Rattle.soundness.specs.MapCalls.{entries}
 use Rattle.soundness.specs.Theorems.{OneOf}
 use Rattle.soundness.specs.EveryMapProof.{evaluation-refusals}
 use Rattle.map_format.specs.Format.{versionAt, theVersion, editsAt, editCount, editsFrom, lengthRight, headingsRight, checkedFile}
-use Rattle.map_file.specs.Run.{cornerOf, freshMap, afterEdits, fileMap, asSetPoint, setPointAt, checkedSetPoint, fileSetPoint}
+use Rattle.map_file.specs.Run.{cornerOf, freshMap, fileMap, asSetPoint, checkedSetPoint, fileSetPoint}
 use Rattle.map_format.specs.declared.format.FileCheck.{FileCheck}
 use Rattle.map_format.specs.declared.format.FileCheck.the-variants.{Valid, Refused}
 use Rattle.value_bytes.specs.Value.{valueBytes}

@@ -3,49 +3,43 @@
 use Prim.Native.Nat.{ℕ, _<_, _+_}
 use mathlib.Core.Path.{_≡_, refl, sym, ap, _∙_}
 use mathlib.Core.Bool.{Bool, true, false, cond, _&&_, _||_}
-use mathlib.Core.List.{List}
 use native.Mathlib.Omega.{arith}
-use borrow.Author.Tests.{eqb-false, ltb-true, lt-ltb, ne-eqb, eq-eqb}
+use borrow.Author.Tests.{eqb-false, ltb-true, ne-eqb, eq-eqb}
 use lib.Dec.{eqb, ltb, lit<}
-use lib.Ieee.{Float, binary64, ofBits, sub, mul}
-use lib.ListN.{length, length-set, set}
-use lib.Seq.{getD-set-same, getD-set-other, set-set, set-getD}
+use lib.Ieee.{Float, binary64, sub, mul}
+use lib.ListN.{length, length-set}
 use Rattle.float64.specs.Literals.{oneLiteral}
 use Rattle.control_point.specs.Connect.{connectable}
 use Rattle.control_point.specs.Direction.{clockwiseOf, antiClockwiseOf, flipOf, sameDirection}
 use Rattle.control_point.specs.DirectionLaws.{same-self}
-use Rattle.control_point.specs.Point.{sideOf, withSide, movedFrom, isMade, isOpening, pointAt, blank}
+use Rattle.control_point.specs.Point.{sideOf, withSide, isMade, isOpening}
 use Rattle.control_point.specs.PointLaws.{isMade-made, isMade-room, made-isMade}
 use Rattle.control_point.specs.Sides.{Sides, sideAt, sidesWith, sidesWithPoint, linkedOf}
 use Rattle.control_point.specs.SidesLaws.{Agree}
 use Rattle.control_point.specs.Small.{small}
-use Rattle.control_point.specs.declared.refusal.Outcome.{Outcome}
 use Rattle.control_point.specs.declared.refusal.Outcome.the-variants.{Done as Connected, Refused as NotConnected}
 use Rattle.control_point.specs.declared.refusal.Refusal.{Refusal}
 use Rattle.control_point.specs.declared.refusal.Refusal.the-variants.{NoPoint, Itself, Taken, Ratio, Foreign, Interval, Full}
-use Rattle.control_point.specs.declared.sides.SideAnswer.{SideAnswer}
 use Rattle.control_point.specs.declared.sides.SideAnswer.the-variants.{Is, Refused as NoSide}
 use Rattle.control_point.specs.declared.t_mesh_control_point.Side.{Side}
 use Rattle.control_point.specs.declared.t_mesh_control_point.Side.the-variants.{Link, Border, Opening}
-use Rattle.control_point.specs.declared.t_mesh_control_point.TmeshControlPoint.{TmeshControlPoint}
 use Rattle.control_point.specs.declared.t_mesh_direction.TmeshDirection.{TmeshDirection}
 use Rattle.control_point.specs.declared.t_mesh_direction.TmeshDirection.the-variants.{Up, Right, Down, Left}
 use Rattle.search.specs.Search.{findInferredConnection}
 use Rattle.search.specs.SearchLaws.{MayConnect, found-connects}
 use Rattle.search.specs.declared.search.Found.{Found}
 use Rattle.search.specs.declared.search.Found.the-variants.{At, Nothing, Failed}
-use Rattle.store.specs.Store.{storeSides, storePoint, withPoint, withSideAt, withNew, linked, done, connectPoints, readSide}
-use Rattle.store.specs.StoreLaws.{side-read, room-kept, sides-side, sides-new, sides-linked}
+use Rattle.store.specs.Store.{storeSides, storePoint, withSideAt, linked, done, connectPoints}
+use Rattle.store.specs.StoreLaws.{room-kept, sides-side, sides-new, sides-linked}
 use Rattle.store.specs.declared.store.Changed.{Changed}
 use Rattle.store.specs.declared.store.Store.{Store}
-use Rattle.insertion.specs.Insert.{inUnit, checkedIntervals, checkedFacing, checkedSide, checked, checkedLink, cut, pointInLine, parted, nearJoined, farJoined, placed, soughtSide, borderOr, newSide, withNewSide, isTorn, unlessTorn, openedCount, inferredCount, countedAnswer, answerOf, firstSide, withFirst, secondSide, sided, passed, insertPoint}
+use Rattle.insertion.specs.Insert.{inUnit, checkedIntervals, checkedFacing, checkedSide, checked, checkedLink, cut, pointInLine, parted, nearJoined, farJoined, placed, soughtSide, borderOr, newSide, withNewSide, isTorn, unlessTorn, openedCount, inferredCount, countedAnswer, firstSide, withFirst, secondSide, sided, passed, insertPoint}
 use Rattle.insertion.specs.Lent.{madeSide}
 use Rattle.insertion.specs.declared.insertion.NewSide.{NewSide}
 use Rattle.insertion.specs.declared.insertion.NewSide.the-variants.{Takes, Joins, Opens, Tears, Stays}
 use Rattle.insertion.specs.declared.insertion.Checked.{Checked}
 use Rattle.insertion.specs.declared.insertion.Checked.the-variants.{Passed, Refused as NotPassed}
-use Rattle.insertion.specs.declared.insertion.InsertAnswer.{InsertAnswer}
-use Rattle.insertion.specs.declared.insertion.InsertAnswer.the-variants.{Done, Torn, Refused}
+use Rattle.insertion.specs.declared.insertion.InsertAnswer.the-variants.{Refused}
 use Rattle.insertion.specs.declared.insertion.Inserted.{Inserted}
 
 -- ---- connecting
@@ -123,12 +117,6 @@ module _ (store : Store) (room : length (store .points) ≡ 128) (p : ℕ) (h : 
   module _ (n : ℕ) (interval : Float) (j : connectable (sidesWith (storeSides store) p f Opening) (store .made) p n f ≡ Connected) where
     pub joined-linked : connectPoints openedAt p n f interval ≡ done (linked openedAt p n f interval)
     joined-linked = connected openedAt p n f interval (ap (λ (sides : Sides). connectable sides (store .made) p n f) sides-opened ∙ j)
-
-    pub joined-room : n < 128
-    joined-room = isMade-room (store .made) n (connectable-other _ (store .made) p n f j .0)
-
-    pub joined-apart : n ≡ p → ⊥
-    joined-apart e = eqb-false p n (connectable-other _ (store .made) p n f j .1) (sym e)
 
   pub made-new-side : (side : NewSide) → MayJoin (storeSides store) (store .made) p f side → withNewSide store p f side .made ≡ store .made
   made-new-side (Takes weight) j = refl

@@ -1,5 +1,5 @@
 -- Insertion into lent points: each change of the store by which p is placed and gets its sides, as a change of points.
-use Prim.Native.Nat.{ℕ, _+_}
+use Prim.Native.Nat.{ℕ}
 use mathlib.Core.Bool.{Bool, cond}
 use mathlib.Core.List.{List}
 use mathlib.Core.Path.{_≡_}

@@ -1,19 +1,17 @@
 -- Laws of insertion into lent points: they hold the store's points as p is placed and gets its sides, and what is read of them is what the store says.
 use Prim.Native.Nat.{ℕ, _<_, _+_}
 use mathlib.Core.Path.{_≡_, refl, sym, ap, _∙_, subst}
-use mathlib.Core.Bool.{Bool, true, false, cond}
+use mathlib.Core.Bool.{Bool, true}
 use mathlib.Core.List.{List}
 use native.Mathlib.Omega.{arith}
 use lib.Ieee.{Float, binary64, mul, sub}
 use lib.ListN.{length}
 use Rattle.float64.specs.Literals.{oneLiteral}
-use Rattle.control_point.specs.Connect.{connectable}
 use Rattle.control_point.specs.Direction.{clockwiseOf, antiClockwiseOf, flipOf}
-use Rattle.control_point.specs.Point.{isMade, withSide}
+use Rattle.control_point.specs.Point.{isMade}
 use Rattle.control_point.specs.PointLaws.{isMade-made, isMade-room, made-isMade}
 use Rattle.control_point.specs.Sides.{Sides, sidesWith}
 use Rattle.control_point.specs.SidesLaws.{Agree, agree-with}
-use Rattle.control_point.specs.declared.refusal.Outcome.the-variants.{Done as Connected}
 use Rattle.control_point.specs.declared.refusal.Refusal.{Refusal}
 use Rattle.control_point.specs.declared.t_mesh_control_point.Side.the-variants.{Border, Opening}
 use Rattle.control_point.specs.declared.t_mesh_control_point.TmeshControlPoint.{TmeshControlPoint}
@@ -21,7 +19,7 @@ use Rattle.control_point.specs.declared.t_mesh_direction.TmeshDirection.{TmeshD
 use Rattle.lent_points.specs.Lent.{Points, pointsWithSide, pointsFrom, Held, heldStore}
 use Rattle.lent_points.specs.LentLaws.{held-new, held-side, held-linked, held-agree, held-store}
 use Rattle.search.specs.SearchLaws.{found-agrees}
-use Rattle.store.specs.Store.{storeSides, withSideAt, linked}
+use Rattle.store.specs.Store.{storeSides, withSideAt}
 use Rattle.store.specs.declared.store.Changed.{Changed}
 use Rattle.store.specs.declared.store.Store.{Store}
 use Rattle.insertion.specs.Insert.{cut, pointInLine, parted, placed, newSide, withNewSide, unlessTorn, answerOf, firstSide, withFirst, secondSide, sided, checkedLink, insertPoint}

@@ -3,7 +3,6 @@
 -- panics where it compares a NaN. Here a point's knots are kept as computed, which is the same wherever they never fall.
 use mathlib.Core.Bool.{Bool, true, cond, not, _&&_}
 use mathlib.Core.List.{List, [], _∷_}
-use lib.Dec.{T}
 use lib.Ieee.{Float, lt, le, isNan}
 
 -- a knot further on comes before u where it is below u, and only there
@@ -11,25 +10,23 @@ abbrev pub comesBefore : Float → Float → Bool
 comesBefore v u = lt v u
 
 -- a knot put among those further on, which are sorted
-unfoldable pub placed : Float → List Float → List Float
-placed u [] = u ∷ []
-placed u (v ∷ rest) = cond (comesBefore v u) (v ∷ placed u rest) (u ∷ (v ∷ rest))
+unfoldable pub withKnot : Float → List Float → List Float
+withKnot u [] = u ∷ []
+withKnot u (v ∷ rest) = cond (comesBefore v u) (v ∷ withKnot u rest) (u ∷ (v ∷ rest))
 
 unfoldable pub sorted : List Float → List Float
 sorted [] = []
-sorted (u ∷ rest) = placed u (sorted rest)
+sorted (u ∷ rest) = withKnot u (sorted rest)
 
--- each knot is at most the next; so of two or more none is a NaN
+-- whether a knot is at most the first of those further on
 abbrev pub firstAtLeast : Float → List Float → Bool
 firstAtLeast u [] = true
 firstAtLeast u (v ∷ rest) = le u v
 
+-- each knot is at most the next; so of two or more none is a NaN
 unfoldable pub neverFalls : List Float → Bool
 neverFalls [] = true
 neverFalls (u ∷ rest) = firstAtLeast u rest && neverFalls rest
-
-abbrev pub NeverFalls : List Float → Type 0
-NeverFalls list = T (neverFalls list)
 
 -- no knot is a NaN
 unfoldable pub allNumbers : List Float → Bool

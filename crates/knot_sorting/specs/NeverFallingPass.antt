@@ -5,13 +5,13 @@ use mathlib.Core.Path.{_≡_}
 use lib.Dec.{T}
 use lib.Ieee.{Float, binary64, ofBits}
 use Rattle.float64.specs.Literals.{zeroLiteral, oneLiteral}
-use Rattle.knot_sorting.specs.KnotVector.{sorted, NeverFalls, allNumbers}
+use Rattle.knot_sorting.specs.KnotVector.{sorted, neverFalls, allNumbers}
 
 abbrev pub NeverFallingPass : Type 0
-NeverFallingPass = (list : List Float) → NeverFalls list → sorted list ≡ list
+NeverFallingPass = (list : List Float) → T (neverFalls list) → sorted list ≡ list
 
 abbrev pub SortedNeverFalls : Type 0
-SortedNeverFalls = (list : List Float) → T (allNumbers list) → NeverFalls (sorted list)
+SortedNeverFalls = (list : List Float) → T (allNumbers list) → T (neverFalls (sorted list))
 
 -- ---- worked examples
 abbrev pub minusZero : Float

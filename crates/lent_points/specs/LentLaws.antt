@@ -7,7 +7,7 @@ use native.Mathlib.Omega.{arith}
 use borrow.Author.Tests.{ltb-true, ltb-false, lt-ltb, eqb-true, eqb-false, ne-eqb, eq-eqb}
 use lib.Dec.{ltb, eqb}
 use lib.Ieee.{Float, nan}
-use lib.ListN.{length, length-set, getD, set}
+use lib.ListN.{length, length-set, set}
 use lib.Seq.{getD-set-same, getD-set-other, ext-getD}
 use Rattle.control_point.specs.Direction.{flipOf, sameDirection}
 use Rattle.control_point.specs.Point.{sideOf, withSide, movedFrom, movedAcross, movedUpwards, isMade, pointAt, blank}

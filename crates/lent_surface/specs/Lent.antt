@@ -2,22 +2,21 @@
 -- own. A map is lent with its knots kept, those that it keeps or those built, as `subs` has them; where building them is refused nothing is
 -- lent. e is the closeness.
 use Prim.Native.Nat.{ℕ, zero, suc, _+_}
-use mathlib.Core.Bool.{Bool, true, false, cond}
+use mathlib.Core.Bool.{Bool, true, false}
 use mathlib.Core.List.{List, [], _∷_, map}
 use mathlib.Core.Path.{_≡_}
 use lib.Ieee.{Float, nan}
 use lib.ListN.{length, getD, replicate}
 use Rattle.float64.specs.Literals.{zeroLiteral}
-use Rattle.control_point.specs.Told.{Told, tells, outcomeTold}
+use Rattle.control_point.specs.Told.{Told, tells}
 use Rattle.control_point.specs.declared.refusal.Outcome.{Outcome}
 use Rattle.control_point.specs.declared.refusal.Outcome.the-variants.{Done, Refused}
 use Rattle.store.specs.Store.{emptyStore}
 use Rattle.ray.specs.declared.knots.PointKnots.{PointKnots}
 use Rattle.t_mesh.specs.declared.t_mesh.Position.{Position}
 use Rattle.t_mesh.specs.declared.t_mesh.Tmesh.{Tmesh}
-use Rattle.knot_vectors.specs.Knots.{generateKnotVectors}
 use Rattle.knot_vectors.specs.declared.knots.Generated.{Generated}
-use Rattle.surface.specs.Evaluation.{withKnots}
+use Rattle.surface.specs.Evaluation.{withKnots, withKnotsTable}
 
 -- ---- the arrays
 pub record LentArrays : Type 0 where
@@ -78,6 +77,6 @@ lentAfter (Refused refusal) own = noneLent
 unfoldable pub lendOf : Float → Tmesh → Generated × LentArrays
 lendOf e own = (withKnots e own, lentAfter (withKnots e own .outcome) (withKnots e own .map))
 
--- its table: done where knots are kept, else what building them tells
+-- its table: refused as `subs` is; done, it tells no value
 abbrev pub lendTable : Float → Tmesh → Told
-lendTable e own = cond (own .kept) (tells []) (outcomeTold (generateKnotVectors e own .outcome))
+lendTable e own = withKnotsTable e own (λ kept. tells [])

@@ -10,7 +10,7 @@ use lib.Ieee.{Float, binary64, add, mul}
 use lib.ListN.{length, length-set, length-map, length-replicate, getD, set, replicate, List·getD-map}
 use lib.Seq.{getD-set-same, getD-set-other, ext-getD}
 use Rattle.float64.specs.Literals.{zeroLiteral}
-use Rattle.control_point.specs.Told.{outcomeTold, tells}
+use Rattle.control_point.specs.Told.{outcomeTold, tells, refusedOr}
 use Rattle.control_point.specs.declared.refusal.Outcome.{Outcome}
 use Rattle.control_point.specs.declared.refusal.Outcome.the-variants.{Done, Refused}
 use Rattle.control_point.specs.declared.refusal.Refusal.{Refusal}
@@ -20,7 +20,7 @@ use Rattle.surface.specs.declared.evaluation.Share.{Share}
 use Rattle.t_mesh.specs.Tmesh.{Axis, X, Y, Z, coordinate, isListed}
 use Rattle.t_mesh.specs.declared.t_mesh.Position.{Position}
 use Rattle.t_mesh.specs.declared.t_mesh.Tmesh.{Tmesh}
-use Rattle.knot_vectors.specs.Knots.{generateKnotVectors}
+use Rattle.surface.specs.EvaluationLaws.{with-knots-told}
 use Rattle.knot_vectors.specs.declared.knots.Generated.{Generated}
 use Rattle.lent_surface.specs.Lent.{LentArrays, Full, lent, lentKnots, lentPosition, inTurn, valuesFrom, heldMap, heldBy, lentOf, noneLent, lentAfter, lendOf, lendTable}
 
@@ -155,9 +155,9 @@ module _ (e : Float) (own : Tmesh) where
     lend-refused refusal o a = lend-by (Refused refusal) o a
 
   pub lend-told : outcomeTold (lendOf e own .0 .outcome) ≡ lendTable e own
-  unfolding lendOf withKnots
-  lend-told = by-test (own .kept)
+  unfolding lendOf
+  lend-told = outcome-told (withKnots e own .outcome) ∙ with-knots-told e own (λ kept. tells [])
     where
-      by-test : (b : Bool) → outcomeTold (cond b (record { outcome = Done; map = own }) (generateKnotVectors e own) .outcome) ≡ cond b (tells []) (outcomeTold (generateKnotVectors e own .outcome))
-      by-test true = refl
-      by-test false = refl
+      outcome-told : (outcome : Outcome) → outcomeTold outcome ≡ refusedOr outcome (tells [])
+      outcome-told Done = refl
+      outcome-told (Refused refusal) = refl

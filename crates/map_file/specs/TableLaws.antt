@@ -1,6 +1,6 @@
 -- The set-points of a map and of a file tell what their tables say.
 use Prim.Native.Nat.{ℕ}
-use mathlib.Core.Path.{_≡_, refl}
+use mathlib.Core.Path.{_≡_, refl, _∙_}
 use mathlib.Core.Bool.{Bool, true, false, cond}
 use mathlib.Core.List.{List}
 use lib.Dec.{eqb}
@@ -12,7 +12,7 @@ use Rattle.control_point.specs.declared.refusal.Outcome.the-variants.{Done, Ref
 use Rattle.control_point.specs.declared.refusal.Refusal.the-variants.{Length, Version, Heading}
 use Rattle.t_mesh.specs.declared.t_mesh.Tmesh.{Tmesh}
 use Rattle.surface.specs.Evaluation.{evaluationTold, valueOf, answerBy, withKnots, subsOf, setPointTable}
-use Rattle.surface.specs.EvaluationLaws.{set-point-told}
+use Rattle.surface.specs.EvaluationLaws.{with-knots-told, set-point-told}
 use Rattle.surface.specs.declared.evaluation.Evaluation.{Evaluation}
 use Rattle.map_format.specs.Format.{versionAt, theVersion, editsAt, editCount, lengthRight, headingsRight, checkedFile}
 use Rattle.map_format.specs.declared.format.FileCheck.the-variants.{Valid, Refused}
@@ -25,7 +25,8 @@ as-set-point-told (NotBuilt refusal) value = refl
 
 pub map-set-point-told : (e : Float) (map : Tmesh) (s t : Float) → evaluationTold (setPointAt e map s t) ≡ mapSetPointTable e map s t
 unfolding subsOf
-map-set-point-told e map s t = as-set-point-told (withKnots e map .outcome) (valueOf (withKnots e map .map) s t)
+map-set-point-told e map s t =
+    as-set-point-told (withKnots e map .outcome) (valueOf (withKnots e map .map) s t) ∙ with-knots-told e map (λ own. setPointTable (valueOf own s t))
 
 pub file-set-point-told : (e : Float) (bytes : List ℕ) (s t : Float) → evaluationTold (fileSetPoint e bytes s t) ≡ fileSetPointTable e bytes s t
 unfolding fileSetPoint checkedFile

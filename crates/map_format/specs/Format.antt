@@ -109,10 +109,14 @@ abbrev pub fileTold : FileCheck → Told
 fileTold (Valid n) = tells (natural n ∷ [])
 fileTold (Refused refusal) = refusalTold refusal
 
--- the table of a file: 12, 13, 14
-abbrev pub fileTable : List ℕ → Told
-fileTable bytes =
+-- the table of what takes a file: 12, 13, 14, and where it is valid what is told then
+abbrev pub whereValid : List ℕ → Told → Told
+whereValid bytes next =
     unless 12 (lengthRight bytes)
     (unless 13 (eqb (byteAt bytes versionAt) theVersion)
     (unless 14 (headingsRight (editCount bytes) bytes editsAt)
-    (tells (natural (editCount bytes) ∷ []))))
+    next))
+
+-- the table of a file: the count of its edits
+abbrev pub fileTable : List ℕ → Told
+fileTable bytes = whereValid bytes (tells (natural (editCount bytes) ∷ []))

@@ -11,7 +11,7 @@ use Rattle.control_point.specs.Point.{isLink}
 use Rattle.control_point.specs.Sides.{Sides, sidesWith}
 use Rattle.control_point.specs.declared.t_mesh_direction.TmeshDirection.{TmeshDirection}
 use Rattle.control_point.specs.declared.t_mesh_control_point.Side.{Side}
-use Rattle.control_point.specs.declared.t_mesh_control_point.Side.the-variants.{Link, Border, Opening}
+use Rattle.control_point.specs.declared.t_mesh_control_point.Side.the-variants.{Border, Opening}
 use Rattle.store.specs.Store.{storeSides, withSideAt, linked}
 use Rattle.store.specs.declared.store.Changed.{Changed}
 use Rattle.store.specs.declared.store.Store.{Store}

@@ -190,6 +190,7 @@ module _ (e : Float) (store : Store) (sound : Sound store) (con : ℕ) (d : Tmes
             record {
               other = other;
               interval = interval;
+              link = link;
               is = refl;
               first = λ is. true≢false (subst KnownFound is (sides .first-sought));
               second = λ is. true≢false (subst KnownFound is (sides .second-sought));

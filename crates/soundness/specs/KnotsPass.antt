@@ -9,7 +9,7 @@ use lib.Dec.{T}
 use lib.Ieee.{Float, le}
 use Rattle.float64.specs.Sign.{0f}
 use Rattle.ray.specs.Knots.{pointKnotVectors}
-use Rattle.knot_sorting.specs.KnotVector.{sorted, NeverFalls, allNumbers}
+use Rattle.knot_sorting.specs.KnotVector.{sorted, neverFalls, allNumbers}
 use Rattle.ray.specs.declared.knots.PointKnots.{PointKnots}
 use Rattle.t_mesh.specs.Tmesh.{storeOf, newTmesh}
 use Rattle.t_mesh.specs.declared.t_mesh.Position.{Position}
@@ -18,7 +18,7 @@ use Rattle.soundness.specs.MapCalls.{mapAfterAll, entries}
 
 -- five knots that hold no NaN never fall, and pass
 pub record Passes (five : List Float) : Type 0 where
-  pub never-fall : T (allNumbers five) → NeverFalls five
+  pub never-fall : T (allNumbers five) → T (neverFalls five)
   pub unchanged : T (allNumbers five) → sorted five ≡ five
 
 pub record BothPass (own : PointKnots) : Type 0 where

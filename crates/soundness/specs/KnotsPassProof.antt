@@ -19,7 +19,7 @@ use Rattle.insertion.specs.declared.insertion.InsertAnswer.the-variants.{Done, 
 use Rattle.mirror.specs.BoolLaws.{cond-case}
 use Rattle.store.specs.Store.{storeSides, storePoint}
 use Rattle.store.specs.declared.store.Store.{Store}
-use Rattle.knot_sorting.specs.KnotVector.{neverFalls, NeverFalls, allNumbers}
+use Rattle.knot_sorting.specs.KnotVector.{neverFalls, allNumbers}
 use Rattle.ray.specs.Knots.{first, second, fiveKnots, afterRay, knotsAt, pointKnotVectors}
 use Rattle.knot_sorting.specs.NeverFallingPassProof.{never-falling-pass}
 use Rattle.ray.specs.Ray.{Ray, entries as values, refused, rayOf}
@@ -52,7 +52,7 @@ step-down c nan h k number = absurd (rw (sub-nan-right binary64 c) at number)
 step-down c (inf s) h k number = sub-down binary64 c (inf s) h k number
 step-down c (fin s m e) h k number = sub-down binary64 c (fin s m e) h k number
 
-passes : (five : List Float) → (T (allNumbers five) → NeverFalls five) → Passes five
+passes : (five : List Float) → (T (allNumbers five) → T (neverFalls five)) → Passes five
 passes five h = record { never-fall = h; unchanged = λ numbers. never-falling-pass five (h numbers) }
 
 -- five knots counted outward
@@ -72,7 +72,7 @@ outward centre below above fit h k = passes (fiveKnots centre below above) never
     f : Float
     f = add binary64 d (second above)
 
-    never-fall : T (allNumbers (a ∷ (b ∷ (centre ∷ (d ∷ (f ∷ [])))))) → NeverFalls (a ∷ (b ∷ (centre ∷ (d ∷ (f ∷ [])))))
+    never-fall : T (allNumbers (a ∷ (b ∷ (centre ∷ (d ∷ (f ∷ [])))))) → T (neverFalls (a ∷ (b ∷ (centre ∷ (d ∷ (f ∷ []))))))
     never-fall n =
         and-i (le a b) (le b centre && (le centre d && (le d f && true)))
         (step-down b (second below) (sub-fits binary64 centre (first below)) (h 1) (and-l (number a) (number b && from-centre) n))

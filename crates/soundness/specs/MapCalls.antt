@@ -1,6 +1,7 @@
 -- A list of calls on one map: insertions and evaluations, buildings of the knots, the calls on its store that only look at it (the knots of one
 -- point, a ray), and the direct calls on that store, a point made alone among them; in any order, with any arguments, whatever they answer. A
--- direct call leaves the listing, the positions and the kept knots as they are.
+-- direct call leaves the listing, the positions and the kept knots as they are. Lending a map is none of them: it leaves the map that an
+-- evaluation leaves (the theorem `LendingIsSubs` of lent_surface).
 use Prim.Native.Nat.{ℕ}
 use mathlib.Core.Bool.{Bool, true, false, _&&_}
 use mathlib.Core.List.{List, [], _∷_}

@@ -1,8 +1,6 @@
 -- Only an insertion done drops the kept knots: every other call is defined so.
-use mathlib.Core.Path.{_≡_, refl, sym, ap, _∙_}
+use mathlib.Core.Path.{_≡_, refl}
 use mathlib.Core.Bool.{Bool, true, false, true≢false}
-use lib.Ieee.{Float}
-use Rattle.control_point.specs.declared.refusal.Outcome.the-variants.{Done}
 use Rattle.insertion.specs.Insert.{insertPoint}
 use Rattle.insertion.specs.declared.insertion.InsertAnswer.{InsertAnswer}
 use Rattle.insertion.specs.declared.insertion.InsertAnswer.the-variants.{Done as Added, Torn, Refused}

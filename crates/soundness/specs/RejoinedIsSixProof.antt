@@ -1,5 +1,5 @@
 -- The reading is computed.
-use mathlib.Core.Path.{_≡_, refl}
+use mathlib.Core.Path.{refl}
 use lib.Ieee.{ofBits, ofFields, le, lt, eq, sub, add, div, sum, round, neg}
 use Rattle.control_point.specs.Connect.{connectable}
 use Rattle.control_point.specs.Point.{isMade}

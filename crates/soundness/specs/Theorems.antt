@@ -82,7 +82,7 @@ ListingGrows =
     → isListed (afterCall e map call) n ≡ ((addsPoint e map call && eqb n (storeOf map .made)) || isListed map n))
 
 -- ---- refusals
--- On every map: a call that is refused leaves the map as it was, the kept knots too. Torn, 8, leaves what was done.
+-- On every map: a call that is refused by any number but 8, torn, leaves the map as it was, the kept knots too.
 abbrev pub RefusedKeepsMap : Type 0
 RefusedKeepsMap =
     (e : Float) (map : Tmesh) (call : MapCall) → (numberTo e map call ≡ 0 → ⊥) → (numberTo e map call ≡ 8 → ⊥) → afterCall e map call ≡ map
@@ -140,9 +140,20 @@ PlacingConnects =
 pub record Seeking (e : Float) (store : Store) (con : ℕ) (d : TmeshDirection) (ratio : Float) (result : Inserted) : Type 0 where
   pub other : ℕ
   pub interval : Float
+  pub link : storeSides store con d ≡ Link other interval
   pub is : result ≡ sided e (placed store con other d interval ratio) con (store .made) d
-  pub first : sought e (storeSides (placed store con other d interval ratio)) (placed store con other d interval ratio .made) (store .made) (clockwiseOf d) ≡ Failed NoPoint → ⊥
-  pub second : sought e (storeSides (withFirst e (placed store con other d interval ratio) con (store .made) d)) (placed store con other d interval ratio .made) (store .made) (antiClockwiseOf d) ≡ Failed NoPoint → ⊥
+  pub first : sought e
+      (storeSides (placed store con other d interval ratio))
+      (placed store con other d interval ratio .made)
+      (store .made)
+      (clockwiseOf d)
+      ≡ Failed NoPoint → ⊥
+  pub second : sought e
+      (storeSides (withFirst e (placed store con other d interval ratio) con (store .made) d))
+      (placed store con other d interval ratio .made)
+      (store .made)
+      (antiClockwiseOf d)
+      ≡ Failed NoPoint → ⊥
 
 -- where 11 is met on a map: a call answers it where a point that it is given was never made, and nowhere else, so that an insertion, an
 -- evaluation and the building of all knots never do, nor a walk, a ray or the knots of a made point; and no search of an insertion fails by it

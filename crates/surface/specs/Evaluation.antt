@@ -2,8 +2,8 @@
 -- functions; the answer is the sum of position × weight over the sum of the weights, axis by axis, each sum from +0.0 over the listed
 -- points in the order of their numbers, every product, quotient and sum rounding once; and beside it the sum of the weights.
 use Prim.Native.Nat.{ℕ, zero, suc, _+_}
-use mathlib.Core.Bool.{Bool, true, false, cond, _&&_}
-use mathlib.Core.List.{List, [], _∷_}
+use mathlib.Core.Bool.{Bool, false, cond, _&&_}
+use mathlib.Core.List.{[], _∷_}
 use lib.Ieee.{Float, nan, inf, binary64, add, mul, div, lt}
 use lib.ListN.{getD}
 use Rattle.float64.specs.Literals.{zeroLiteral}
@@ -113,9 +113,14 @@ withKnots e map = cond (map .kept) (record { outcome = Done; map = map }) (gener
 unfoldable pub subsOf : Float → Tmesh → Float → Float → Evaluated
 subsOf e map s t = evaluatedBy (withKnots e map .outcome) (withKnots e map .map) s t
 
--- its table: a ray's refusal where there are no knots, else the value
+-- the table of what wants knots: those kept; only if none are, they are built, and a ray's refusal is told
+abbrev pub withKnotsTable : Float → Tmesh → (Tmesh → Told) → Told
+withKnotsTable e map next =
+    cond (map .kept) (next map) (refusedOr (generateKnotVectors e map .outcome) (next (generateKnotVectors e map .map)))
+
+-- its table: the value, by the knots
 abbrev pub subsTable : Float → Tmesh → Float → Float → Told
-subsTable e map s t = refusedOr (withKnots e map .outcome) (valueTold (valueOf (withKnots e map .map) s t))
+subsTable e map s t = withKnotsTable e map (λ own. valueTold (valueOf own s t))
 
 -- ---- the set-point: 15 unless the weight is positive and finite
 abbrev pub weighty : Evaluation → Bool

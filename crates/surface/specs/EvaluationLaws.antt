@@ -1,6 +1,5 @@
 -- Laws of evaluation: a sum that stands at a number is the whole sum once the rest is added, whatever its parts are; the four sums of an
--- evaluation stand together; and the map by whose knots it is;
--- and 1.0 / 0.0.
+-- evaluation stand together; the map by whose knots it is; what its tables say; and 1.0 / 0.0.
 use Prim.Native.Nat.{ℕ, suc, _+_, _-_, _<_}
 use mathlib.Core.Path.{_≡_, refl, ap, _∙_}
 use mathlib.Core.Bool.{Bool, true, false, cond}
@@ -8,12 +7,12 @@ use native.Mathlib.Omega.{arith}
 use lib.Ieee.{Float, inf, binary64, ofBits, ofFields, add, div}
 use Rattle.float64.specs.Literals.{zeroLiteral, oneLiteral}
 use Rattle.control_point.specs.declared.refusal.Outcome.{Outcome}
-use Rattle.control_point.specs.Told.{unless, refusedOr}
+use Rattle.control_point.specs.Told.{Told, unless, refusedOr}
 use Rattle.control_point.specs.declared.refusal.Outcome.the-variants.{Done, Refused}
 use Rattle.control_point.specs.declared.refusal.Refusal.the-variants.{NoWeight}
 use Rattle.t_mesh.specs.Tmesh.{X, Y, Z, isListed}
 use Rattle.t_mesh.specs.declared.t_mesh.Tmesh.{Tmesh}
-use Rattle.surface.specs.Evaluation.{knotsOf, positionOf, weightOf, shareOf, shareBy, sumFrom, sumOf, valueTold, evaluationTold, valueOf, answerBy, evaluatedBy, withKnots, subsOf, subsTable, weighty, setPoint, setPointTable}
+use Rattle.surface.specs.Evaluation.{knotsOf, positionOf, weightOf, shareOf, shareBy, sumFrom, sumOf, valueTold, evaluationTold, valueOf, answerBy, evaluatedBy, withKnots, withKnotsTable, subsOf, subsTable, weighty, setPoint, setPointTable}
 use Rattle.knot_vectors.specs.Knots.{generateKnotVectors}
 use Rattle.surface.specs.declared.evaluation.Evaluation.{Evaluation}
 use Rattle.surface.specs.declared.evaluation.EvaluationAnswer.{EvaluationAnswer}
@@ -115,13 +114,24 @@ unfolding ofBits ofFields div
 infinity = refl
 
 -- ---- both tell what their tables say
+-- what is told of the knots kept or built, or else of the refusal, is the table of what wants knots
+pub with-knots-told : (e : Float) (map : Tmesh) (next : Tmesh → Told) → refusedOr (withKnots e map .outcome) (next (withKnots e map .map)) ≡ withKnotsTable e map next
+unfolding withKnots
+with-knots-told e map next = by-test (map .kept)
+  where
+    by-test : (b : Bool)
+        → refusedOr (cond b (record { outcome = Done; map = map }) (generateKnotVectors e map) .outcome) (next (cond b (record { outcome = Done; map = map }) (generateKnotVectors e map) .map))
+        ≡ cond b (next map) (refusedOr (generateKnotVectors e map .outcome) (next (generateKnotVectors e map .map)))
+    by-test true = refl
+    by-test false = refl
+
 answer-told : (outcome : Outcome) (value : Evaluation) → evaluationTold (answerBy outcome value) ≡ refusedOr outcome (valueTold value)
 answer-told Done value = refl
 answer-told (Refused refusal) value = refl
 
 pub subs-told : (e : Float) (map : Tmesh) (s t : Float) → evaluationTold (subsOf e map s t .answer) ≡ subsTable e map s t
 unfolding subsOf
-subs-told e map s t = answer-told (withKnots e map .outcome) (valueOf (withKnots e map .map) s t)
+subs-told e map s t = answer-told (withKnots e map .outcome) (valueOf (withKnots e map .map) s t) ∙ with-knots-told e map (λ own. valueTold (valueOf own s t))
 
 pub set-point-told : (value : Evaluation) → evaluationTold (setPoint value) ≡ setPointTable value
 unfolding setPoint

@@ -6,7 +6,6 @@ use mathlib.Core.Bool.{Bool, true, false, cond}
 use mathlib.Core.List.{List}
 use lib.Ieee.{Float}
 use lib.ListN.{length}
-use Rattle.control_point.specs.declared.refusal.Refusal.{Refusal}
 use Rattle.control_point.specs.declared.t_mesh_control_point.TmeshControlPoint.{TmeshControlPoint}
 use Rattle.control_point.specs.declared.t_mesh_direction.TmeshDirection.{TmeshDirection}
 use Rattle.insertion.specs.Insert.{insertTold, insertPoint}
@@ -14,7 +13,6 @@ use Rattle.insertion.specs.Table.{insertionTable}
 use Rattle.insertion.specs.TableLaws.{insertion-told}
 use Rattle.insertion.specs.LentLaws.{inserted-made}
 use Rattle.insertion.specs.declared.insertion.InsertAnswer.{InsertAnswer}
-use Rattle.insertion.specs.declared.insertion.InsertAnswer.the-variants.{Refused}
 use Rattle.insertion.specs.declared.insertion.Inserted.{Inserted}
 use Rattle.lent_points.specs.LentLaws.{true-false}
 use Rattle.store.specs.declared.store.Store.{Store}

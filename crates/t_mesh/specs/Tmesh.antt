@@ -2,7 +2,7 @@
 -- shape can depend on them. A point is listed once its insertion is done; the listing's order is that of the numbers.
 use Prim.Native.Nat.{ℕ}
 use mathlib.Core.Bool.{Bool, true, false}
-use mathlib.Core.List.{List, [], _∷_}
+use mathlib.Core.List.{List, _∷_}
 use lib.Ieee.{Float}
 use lib.ListN.{getD, replicate}
 use Rattle.float64.specs.Literals.{zeroLiteral, oneLiteral}

@@ -1,11 +1,10 @@
 -- `insert_point` meets its contract: the checks, p placed, its first side, and its second unless the first was torn, are the definition's.
 use Prim.Native.Nat.{ℕ, _+_}
 use mathlib.Core.Path.{_≡_, refl, _∙_, sym, ap, subst}
-use mathlib.Core.List.{List}
 use native.Mathlib.Omega.{arith}
 use denote.Ref.{now}
 use lib.Ieee.{Float}
-use Rattle.control_point.specs.Direction.{clockwiseOf, antiClockwiseOf, flipOf}
+use Rattle.control_point.specs.Direction.{antiClockwiseOf, flipOf}
 use Rattle.control_point.specs.DirectionLaws.{flip-clockwise}
 use Rattle.control_point.specs.PointLaws.{isMade-made}
 use Rattle.control_point.specs.Sides.{Sides, lentSides}
