@@ -45,7 +45,7 @@ with-never-falls u number (v ∷ rest) numbers h =
     by-test (comesBefore v u) (lt→le v u) (nlt→le v u (and-l (not (isNan v)) (allNumbers rest) numbers) number)
     (with-never-falls u number rest (and-r (not (isNan v)) (allNumbers rest) numbers) (and-r (firstAtLeast v rest) (neverFalls rest) h))
   where
-    by-test : (b : Bool) → (T b → T (le v u)) → (T (not b) → T (le u v)) → T (neverFalls (withKnot u rest)) → NeverFalls (cond b (v ∷ withKnot u rest) (u ∷ (v ∷ rest)))
+    by-test : (b : Bool) → (T b → T (le v u)) → (T (not b) → T (le u v)) → T (neverFalls (withKnot u rest)) → T (neverFalls (cond b (v ∷ withKnot u rest) (u ∷ (v ∷ rest))))
     by-test true below above after =
         and-i (firstAtLeast v (withKnot u rest)) (neverFalls (withKnot u rest)) (with-least v u rest (below tt) (and-l (firstAtLeast v rest) (neverFalls rest) h)) after
     by-test false below above after = and-i (le u v) (neverFalls (v ∷ rest)) (above tt) h
