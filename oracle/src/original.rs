@@ -17,7 +17,7 @@ fn number(error: Error) -> u8 {
     error.number().unwrap_or_else(|| panic!("an error without a number: {error}"))
 }
 
-fn knots(s: &[f64], t: &[f64]) -> Knots {
+fn knots_from(s: &[f64], t: &[f64]) -> Knots {
     let five = |line: &[f64]| <[f64; 5]>::try_from(line).expect("five knots");
     Knots { s: five(s), t: five(t) }
 }
@@ -74,7 +74,7 @@ impl Store {
 
     /// The knots as the published conversion leaves them.
     pub fn point_knot_vectors(&self, point: u8) -> Result<Knots, u8> {
-        point_knot_vectors(self.shared(point)).map(|(s, t)| knots(&s, &t)).map_err(number)
+        point_knot_vectors(self.shared(point)).map(|(s, t)| knots_from(&s, &t)).map_err(number)
     }
 
     pub fn position(&self, point: u8) -> [f64; 3] {
@@ -153,7 +153,7 @@ impl Map {
 
     /// The rows of the listed points, in their order.
     pub fn kept(&self) -> Option<Vec<Knots>> {
-        self.mesh.kept_knots().map(|rows| rows.iter().map(|(s, t)| knots(s, t)).collect())
+        self.mesh.kept_knots().map(|rows| rows.iter().map(|(s, t)| knots_from(s, t)).collect())
     }
 
     pub fn listed(&self) -> Vec<u8> {
