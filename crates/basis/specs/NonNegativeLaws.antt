@@ -183,17 +183,21 @@ or-number : (b c : Bool) → (T (not b) → T c) → T (b || c)
 or-number true c h = tt
 or-number false c h = h tt
 
-step-up : (c x : Float) → T (fits binary64 c) → T (nonnegOrNan x) → T (isNan (add binary64 c x) || le c (add binary64 c x))
+-- counted from a float that fits by a step that is NaN or not negative: a sum that is a number is not below it, a difference not above
+pub sum-at-least : (c x : Float) → T (fits binary64 c) → T (nonnegOrNan x) → T (not (isNan (add binary64 c x))) → T (le c (add binary64 c x))
 unfolding isNan
-step-up c nan h k = rw (add-nan-right binary64 c) tt
-step-up c (inf s) h k = or-number (isNan (add binary64 c (inf s))) (le c (add binary64 c (inf s))) (add-up binary64 c (inf s) h k)
-step-up c (fin s m e) h k = or-number (isNan (add binary64 c (fin s m e))) (le c (add binary64 c (fin s m e))) (add-up binary64 c (fin s m e) h k)
+sum-at-least c nan h k number = absurd (rw (add-nan-right binary64 c) at number)
+sum-at-least c (inf s) h k number = add-up binary64 c (inf s) h k number
+sum-at-least c (fin s m e) h k number = add-up binary64 c (fin s m e) h k number
 
-step-down : (c x : Float) → T (fits binary64 c) → T (nonnegOrNan x) → T (isNan (sub binary64 c x) || le (sub binary64 c x) c)
+pub difference-at-most : (c x : Float) → T (fits binary64 c) → T (nonnegOrNan x) → T (not (isNan (sub binary64 c x))) → T (le (sub binary64 c x) c)
 unfolding isNan
-step-down c nan h k = rw (sub-nan-right binary64 c) tt
-step-down c (inf s) h k = or-number (isNan (sub binary64 c (inf s))) (le (sub binary64 c (inf s)) c) (sub-down binary64 c (inf s) h k)
-step-down c (fin s m e) h k = or-number (isNan (sub binary64 c (fin s m e))) (le (sub binary64 c (fin s m e)) c) (sub-down binary64 c (fin s m e) h k)
+difference-at-most c nan h k number = absurd (rw (sub-nan-right binary64 c) at number)
+difference-at-most c (inf s) h k number = sub-down binary64 c (inf s) h k number
+difference-at-most c (fin s m e) h k number = sub-down binary64 c (fin s m e) h k number
 
 pub non-negative : NonNegative
-non-negative u centre down downAgain up upAgain h k l = formula-nonnegOrNan u _ (step-down centre down h k) (step-up centre up h l)
+non-negative u centre down downAgain up upAgain h k l =
+    formula-nonnegOrNan u _
+    (or-number (isNan (sub binary64 centre down)) (le (sub binary64 centre down) centre) (difference-at-most centre down h k))
+    (or-number (isNan (add binary64 centre up)) (le centre (add binary64 centre up)) (sum-at-least centre up h l))

@@ -16,13 +16,13 @@ use Rattle.control_point.specs.Point.{sideOf, withSide, isLink, isOpening, isMa
 use Rattle.control_point.specs.PointLaws.{isMade-made, made-isMade}
 use Rattle.control_point.specs.Sides.{Sides, sidesOf, sidesWith, sidesWithPoint}
 use Rattle.control_point.specs.declared.refusal.Outcome.{Outcome}
-use Rattle.control_point.specs.declared.refusal.Outcome.the-variants.{Done, Refused}
-use Rattle.control_point.specs.declared.refusal.Refusal.{Refusal}
+use Rattle.control_point.specs.declared.refusal.Outcome.the-variants.{Done}
 use Rattle.control_point.specs.declared.refusal.Refusal.the-variants.{NoPoint, Itself, Taken}
 use Rattle.control_point.specs.declared.t_mesh_direction.TmeshDirection.{TmeshDirection}
 use Rattle.control_point.specs.declared.t_mesh_control_point.Side.{Side}
 use Rattle.control_point.specs.declared.t_mesh_control_point.Side.the-variants.{Link, Border, Opening}
 use Rattle.control_point.specs.declared.t_mesh_control_point.TmeshControlPoint.{TmeshControlPoint}
+use Rattle.store.specs.TablesLaws.{refused-not}
 use Rattle.store.specs.Store.{storeSides, storePoint, withPoint, withSideAt, withNew, linked}
 use Rattle.store.specs.declared.store.Store.{Store}
 use Rattle.mirror.specs.BoolLaws.{both-ways, cond-case, and-both, or-case, or-none}
@@ -157,9 +157,6 @@ module _ (made : ℕ) (sides : Sides) (first other : ℕ) (d : TmeshDirection) (
     mirrored-two mirrored = mirrored-change made made sides two eitherSide (omega arith) mirrored closed rest faces
 
 -- ---- connecting is done just where the two sides may be joined
-never-done : {A : Type 0} (refusal : Refusal) → Refused refusal ≡ Done → A
-never-done refusal h = let z : _≡_ {A = ℕ} 0 1 = cc in absurd (omega arith)
-
 module _ (made : ℕ) (sides : Sides) (first other : ℕ) (d : TmeshDirection) where
   pub joining-done : made ≤ 128 → Joining made sides first other d → connectable sides made first other d ≡ Done
   unfolding connectable
@@ -171,9 +168,9 @@ module _ (made : ℕ) (sides : Sides) (first other : ℕ) (d : TmeshDirection) w
   done-joining =
       cond-case (isMade made first && isMade made other) P _ _
       (λ m.
-      cond-case (eqb first other) P _ _ (λ s. never-done Itself)
-      (λ s. cond-case (isOpening (sides first d) && isOpening (sides other (flipOf d))) P _ _ (λ o h. joining m s o) (λ o. never-done Taken)))
-      (λ m. never-done NoPoint)
+      cond-case (eqb first other) P _ _ (λ s. refused-not Itself)
+      (λ s. cond-case (isOpening (sides first d) && isOpening (sides other (flipOf d))) P _ _ (λ o h. joining m s o) (λ o. refused-not Taken)))
+      (λ m. refused-not NoPoint)
     where
       P : Outcome → Type 0
       P outcome = outcome ≡ Done → Joining made sides first other d

@@ -4,12 +4,12 @@ use Prim.Native.Nat.{ℕ}
 use mathlib.Core.Bool.{Bool, true, not, _&&_}
 use mathlib.Core.List.{List, [], _∷_}
 use lib.Dec.{T}
-use lib.Ieee.{Float, nan, inf, fin, binary64, ofBits, add, sub, le, fits, isNan}
+use lib.Ieee.{Float, binary64, ofBits, add, sub, le, fits, isNan}
 use lib.Ieee.Fits.{and-l, and-r, and-i, add-fits, sub-fits}
 use lib.ListN.{replicate}
 use Rattle.float64.specs.Literals.{zeroLiteral}
-use Rattle.float64.specs.Nan.{add-nan-right, sub-nan-right}
-use Rattle.float64.specs.SignLaws.{le→nonneg, nonneg→nonnegOrNan, add-up, sub-down}
+use Rattle.basis.specs.NonNegativeLaws.{sum-at-least, difference-at-most}
+use Rattle.float64.specs.SignLaws.{le→nonneg, nonneg→nonnegOrNan}
 use Rattle.control_point.specs.Point.{isMade}
 use Rattle.control_point.specs.declared.t_mesh_direction.TmeshDirection.{TmeshDirection}
 use Rattle.control_point.specs.declared.t_mesh_direction.TmeshDirection.the-variants.{Up, Right, Down, Left}
@@ -39,19 +39,6 @@ use Rattle.calls.specs.SoundLaws.{corner-store}
 use Rattle.soundness.specs.KnotsPass.{Passes, BothPass, KnotsPass}
 use Rattle.soundness.specs.MapCalls.{mapAfterAll, entries}
 
--- ---- a step up, and a step down
-step-up : (c x : Float) → T (fits binary64 c) → NotNegative x → T (not (isNan (add binary64 c x))) → T (le c (add binary64 c x))
-unfolding isNan
-step-up c nan h k number = absurd (rw (add-nan-right binary64 c) at number)
-step-up c (inf s) h k number = add-up binary64 c (inf s) h k number
-step-up c (fin s m e) h k number = add-up binary64 c (fin s m e) h k number
-
-step-down : (c x : Float) → T (fits binary64 c) → NotNegative x → T (not (isNan (sub binary64 c x))) → T (le (sub binary64 c x) c)
-unfolding isNan
-step-down c nan h k number = absurd (rw (sub-nan-right binary64 c) at number)
-step-down c (inf s) h k number = sub-down binary64 c (inf s) h k number
-step-down c (fin s m e) h k number = sub-down binary64 c (fin s m e) h k number
-
 passes : (five : List Float) → (T (allNumbers five) → T (neverFalls five)) → Passes five
 passes five h = record { never-fall = h; unchanged = λ numbers. never-falling-pass five (h numbers) }
 
@@ -75,12 +62,12 @@ outward centre below above fit h k = passes (fiveKnots centre below above) never
     never-fall : T (allNumbers (a ∷ (b ∷ (centre ∷ (d ∷ (f ∷ [])))))) → T (neverFalls (a ∷ (b ∷ (centre ∷ (d ∷ (f ∷ []))))))
     never-fall n =
         and-i (le a b) (le b centre && (le centre d && (le d f && true)))
-        (step-down b (second below) (sub-fits binary64 centre (first below)) (h 1) (and-l (number a) (number b && from-centre) n))
+        (difference-at-most b (second below) (sub-fits binary64 centre (first below)) (h 1) (and-l (number a) (number b && from-centre) n))
         (and-i (le b centre) (le centre d && (le d f && true))
-        (step-down centre (first below) fit (h 0) (and-l (number b) from-centre (and-r (number a) (number b && from-centre) n)))
-        (and-i (le centre d) (le d f && true) (step-up centre (first above) fit (k 0) (and-l (number d) (number f && true) beyond))
+        (difference-at-most centre (first below) fit (h 0) (and-l (number b) from-centre (and-r (number a) (number b && from-centre) n)))
+        (and-i (le centre d) (le d f && true) (sum-at-least centre (first above) fit (k 0) (and-l (number d) (number f && true) beyond))
         (and-i (le d f) true
-        (step-up d (second above) (add-fits binary64 centre (first above)) (k 1) (and-l (number f) true (and-r (number d) (number f && true) beyond)))
+        (sum-at-least d (second above) (add-fits binary64 centre (first above)) (k 1) (and-l (number f) true (and-r (number d) (number f && true) beyond)))
         tt)))
       where
         number : Float → Bool

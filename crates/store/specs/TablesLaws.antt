@@ -33,7 +33,7 @@ use Rattle.store.specs.declared.store.PointAnswer.the-variants.{Is as Po
 use Rattle.store.specs.declared.store.Store.{Store}
 
 -- a refusal is not done
-refused-not : {A : Type 0} (refusal : Refusal) → Refused refusal ≡ Done → A
+pub refused-not : {A : Type 0} (refusal : Refusal) → Refused refusal ≡ Done → A
 refused-not refusal h = let z : _≡_ {A = ℕ} 0 1 = cc in absurd (omega arith)
 
 -- a side that was set stands there
