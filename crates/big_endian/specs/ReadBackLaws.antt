@@ -1,9 +1,8 @@
 -- What was written is read back: a byte of it, and a number in it, wherever it stands in what was written.
 use Prim.Native.Nat.{ℕ, zero, suc, _+_, _*_, _/_, _%_, _^_, _≤_, _<_}
-use mathlib.Core.Path.{_≡_, refl, sym, ap, _∙_, subst}
+use mathlib.Core.Path.{_≡_, refl, ap, _∙_, subst}
 use mathlib.Core.List.{List, [], _∷_, _++_, append-assoc}
 use native.Mathlib.Nat.{pow-suc}
-use native.Mathlib.Numerals.{add-one}
 use native.Mathlib.Omega.{arith}
 use lib.ListN.{length, getD, set, length-append, length-set}
 use Rattle.big_endian.specs.BigEndian.{numberAt}
@@ -30,7 +29,7 @@ before-stays [] buffer at place h = refl
 before-stays (byte ∷ text) buffer at place h = before-stays text (set buffer at byte) (at + 1) place (omega arith) ∙ set-there buffer at place byte h
 
 -- a byte of what was written
-pub byte-back : (text buffer : List ℕ) (at i : ℕ) → i < length text → at + length text ≤ length buffer → getD (written buffer at text) (at + i) 0 ≡ getD text i 0
+byte-back : (text buffer : List ℕ) (at i : ℕ) → i < length text → at + length text ≤ length buffer → getD (written buffer at text) (at + i) 0 ≡ getD text i 0
 unfolding written
 byte-back [] buffer at i h room = absurd (omega arith)
 byte-back (byte ∷ text) buffer at zero h room =

@@ -1,7 +1,7 @@
 // Numbers in stored bytes, the most significant byte first. A byte past the end counts as 0, so that every place can be read, and is not written.
 ghost use mathlib.Core.Path.{_≡_};
 ghost use Prim.Native.Nat.{_+_, _^_, _≤_, _<_};
-ghost use lib.ListN.{drop, set};
+ghost use lib.ListN.{drop, length, set};
 ghost use Rattle.big_endian.specs.BigEndian.{byteAt, numberAt, floatAt};
 ghost use Rattle.big_endian.specs.Written.{written, bytesOf};
 
@@ -22,6 +22,14 @@ fn byte_after(bytes: &[u8], at: usize, offset: usize) -> u8
         }
     }
     0
+}
+
+// The byte at a place, where there is one.
+fn byte_in(bytes: &[u8], at: usize) -> u8
+    requires { ⌜ at < length (now bytes) ⌝ }
+    ensures { λ r. ⌜ r ≡ byteAt (now (bytes .entry)) at ⌝ }
+{
+    bytes[at]
 }
 
 fn wide(byte: u8) -> usize
@@ -60,6 +68,20 @@ pub fn number_at(bytes: &[u8], at: usize) -> u64
     number_of_width(bytes, at, 8)
 }
 
+// The same where all eight are there: no byte is tested for, so that the compiler can make one load of them.
+fn whole_number(bytes: &[u8], at: usize) -> u64
+    requires { ⌜ at + 8 ≤ length (now bytes) ⌝ }
+    ensures { λ r. ⌜ r ≡ numberAt 8 (now (bytes .entry)) at ⌝ }
+{
+    let mut number: u64 = 0;
+    let mut read: usize = 0;
+    while read < 8 {
+        number = number * 256 + (byte_in(bytes, at + read) as u64);
+        read += 1;
+    }
+    number
+}
+
 // The length in the four bytes from a place on.
 pub fn length_at(bytes: &[u8], at: usize) -> usize
     ensures value { λ r. ⌜ r ≡ numberAt 4 (now (bytes .entry)) at ⌝ }
@@ -68,10 +90,16 @@ pub fn length_at(bytes: &[u8], at: usize) -> usize
     number_of_width(bytes, at, 4) as usize
 }
 
-// The float whose bits the eight bytes from a place on are.
+// The float whose bits the eight bytes from a place on are. Each way ends by itself: where the two met before `from_bits`, the compiler would read
+// byte by byte.
 pub fn float_at(bytes: &[u8], at: usize) -> f64
     ensures { λ r. ⌜ r ≡ floatAt (now (bytes .entry)) at ⌝ }
 {
+    if at < bytes.len() {
+        if 8 <= bytes.len() - at {
+            return float64::from_bits(whole_number(bytes, at));
+        }
+    }
     float64::from_bits(number_at(bytes, at))
 }
 
