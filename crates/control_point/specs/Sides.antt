@@ -1,7 +1,7 @@
 -- The sides of a mesh as a function of number and direction: all that a walk, a search or a ray reads of it. Here are those of a
 -- list of points, and those of three arrays with the kind, the number and the interval of each side, in which they are lent.
 use Prim.Native.Nat.{ℕ, _*_, _+_}
-use mathlib.Core.Bool.{Bool, cond, _&&_}
+use mathlib.Core.Bool.{cond, _&&_}
 use mathlib.Core.List.{List}
 use mathlib.Core.Path.{_≡_}
 use lib.Dec.{ltb, eqb}

@@ -12,7 +12,6 @@ use lib.Seq.{getD-set-same, getD-set-other}
 use Rattle.control_point.specs.Direction.{directionNumber, sameDirection}
 use Rattle.control_point.specs.DirectionLaws.{number-small}
 use Rattle.control_point.specs.Point.{sideOf, pointAt, isMade, blank}
-use Rattle.control_point.specs.PointLaws.{isMade-made, isMade-room}
 use Rattle.control_point.specs.Sides.{Sides, sidesOf, lentSides, sideFrom, place, Full, kindOf, linkedOf, intervalOf, sidesWith, sidesWithPoint}
 use Rattle.control_point.specs.declared.t_mesh_direction.TmeshDirection.{TmeshDirection}
 use Rattle.control_point.specs.declared.t_mesh_direction.TmeshDirection.the-variants.{Up, Right, Down, Left}
@@ -40,7 +39,7 @@ side-back (Link n interval) = refl
 side-back (Border weight) = refl
 side-back Opening = refl
 
-pub place-room : (n : ℕ) (d : TmeshDirection) → n < 128 → place n d < 512
+place-room : (n : ℕ) (d : TmeshDirection) → n < 128 → place n d < 512
 place-room n d h = omega (arith, number-small d)
 
 -- ---- a store at one place
@@ -128,8 +127,3 @@ Agree made sides others = (n : ℕ) (d : TmeshDirection) → isMade made n ≡ t
 -- with another side
 pub agree-with : (made : ℕ) (sides others : Sides) (n : ℕ) (d : TmeshDirection) (side : Side) → Agree made sides others → Agree made (sidesWith sides n d side) (sidesWith others n d side)
 agree-with made sides others n d side agree m e h = ap (cond (eqb m n && sameDirection e d) side) (agree m e h)
-
--- the sides of the first so many points are right: they agree with the points'
-pub right-agree : (made : ℕ) (sides : Sides) (points : List TmeshControlPoint) → RightTo made sides points → Agree made sides (sidesOf points)
-unfolding sidesOf
-right-agree made sides points r n d h = r n d (isMade-made made n h) ∙ simp (lt-ltb n 128 (isMade-room made n h))

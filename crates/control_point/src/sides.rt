@@ -79,7 +79,7 @@ fn kind_of(side: Side) -> u8
     }
 }
 
-pub fn linked_of(side: Side) -> u8
+fn linked_of(side: Side) -> u8
     ensures { λ r. ⌜ r ≡ linkedOf side ⌝ }
 {
     match side {
@@ -109,7 +109,10 @@ pub fn put_side(
     side: Side,
 )
     requires { ⌜ (n < 128) × Full (now kinds) (now numbers) (now intervals) ⌝ }
-    ensures { λ _. ⌜ Full (now (kinds .exit)) (now (numbers .exit)) (now (intervals .exit)) × (lentSides (now (kinds .exit)) (now (numbers .exit)) (now (intervals .exit)) ≡ sidesWith (lentSides (now (kinds .entry)) (now (numbers .entry)) (now (intervals .entry))) n direction side) ⌝ }
+    ensures { λ _.
+        let before = lentSides (now (kinds .entry)) (now (numbers .entry)) (now (intervals .entry)) in
+        let after = lentSides (now (kinds .exit)) (now (numbers .exit)) (now (intervals .exit)) in
+        ⌜ Full (now (kinds .exit)) (now (numbers .exit)) (now (intervals .exit)) × (after ≡ sidesWith before n direction side) ⌝ }
 {
     let i = place_of(n, direction);
     kinds[i] = kind_of(side);
@@ -126,7 +129,10 @@ pub fn put_point(
     point: TmeshControlPoint,
 )
     requires { ⌜ (n < 128) × Full (now kinds) (now numbers) (now intervals) ⌝ }
-    ensures { λ _. ⌜ Full (now (kinds .exit)) (now (numbers .exit)) (now (intervals .exit)) × (lentSides (now (kinds .exit)) (now (numbers .exit)) (now (intervals .exit)) ≡ sidesWithPoint (lentSides (now (kinds .entry)) (now (numbers .entry)) (now (intervals .entry))) n point) ⌝ }
+    ensures { λ _.
+        let before = lentSides (now (kinds .entry)) (now (numbers .entry)) (now (intervals .entry)) in
+        let after = lentSides (now (kinds .exit)) (now (numbers .exit)) (now (intervals .exit)) in
+        ⌜ Full (now (kinds .exit)) (now (numbers .exit)) (now (intervals .exit)) × (after ≡ sidesWithPoint before n point) ⌝ }
 {
     let up = point.up;
     let right = point.right;

@@ -27,7 +27,11 @@ pub fn cross(
     f: TmeshDirection,
 ) -> NewSide
     requires { ⌜ (p < 128) × Room (now kinds) (now numbers) (now intervals) (now coordinates) ⌝ }
-    ensures { λ r. ⌜ (r ≡ newSide closeness (lentSides (now (kinds .entry)) (now (numbers .entry)) (now (intervals .entry))) made con p f) × (Room (now (kinds .exit)) (now (numbers .exit)) (now (intervals .exit)) (now (coordinates .exit)) × (lentPoints (now (kinds .exit)) (now (numbers .exit)) (now (intervals .exit)) (now (coordinates .exit)) ≡ pointsWithNew (lentPoints (now (kinds .entry)) (now (numbers .entry)) (now (intervals .entry)) (now (coordinates .entry))) p f r)) ⌝ }
+    ensures { λ r.
+        let before = lentPoints (now (kinds .entry)) (now (numbers .entry)) (now (intervals .entry)) (now (coordinates .entry)) in
+        let after = lentPoints (now (kinds .exit)) (now (numbers .exit)) (now (intervals .exit)) (now (coordinates .exit)) in
+        ⌜ (r ≡ newSide closeness (lentSides (now (kinds .entry)) (now (numbers .entry)) (now (intervals .entry))) made con p f)
+        × (Room (now (kinds .exit)) (now (numbers .exit)) (now (intervals .exit)) (now (coordinates .exit)) × (after ≡ pointsWithNew before p f r)) ⌝ }
 {
     let side = side_at(kinds, numbers, intervals, con, f);
     if let Side::Border(weight) = side {

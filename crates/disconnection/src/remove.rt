@@ -26,7 +26,8 @@ use store::store::with_point;
 pub fn remove_connection(store: Store, n: u8, direction: TmeshDirection) -> Changed
     ensures is { λ r. ⌜ r ≡ removeConnection store n direction ⌝ }
     ensures told { λ r. ⌜ outcomeTold (r .outcome) ≡ removeConnectionTable store n direction ⌝ }
-    ensures opens { λ r. ⌜ (r .outcome ≡ Done → (storeSides (r .store) n direction ≡ Opening) × ((m : ℕ) (interval : Float) → storeSides store n direction ≡ Link m interval → storeSides (r .store) m (flipOf direction) ≡ Opening)) ⌝ }
+    ensures opens { λ r. ⌜ (r .outcome ≡ Done → (storeSides (r .store) n direction ≡ Opening)
+        × ((m : ℕ) (interval : Float) → storeSides store n direction ≡ Link m interval → storeSides (r .store) m (flipOf direction) ≡ Opening)) ⌝ }
 {
     let made = store.made;
     if !is_made(made, n) {

@@ -4,7 +4,7 @@ use Prim.Native.Nat.{ℕ, _<_, _+_}
 use mathlib.Core.Path.{_≡_, refl, sym, ap, _∙_}
 use mathlib.Core.Bool.{Bool, true, false, cond, _&&_, _||_}
 use native.Mathlib.Omega.{arith}
-use borrow.Author.Tests.{eqb-false, ltb-true, ne-eqb, eq-eqb}
+use borrow.Author.Tests.{ltb-true, ne-eqb, eq-eqb}
 use lib.Dec.{eqb, ltb, lit<}
 use lib.Ieee.{Float, binary64, sub, mul}
 use lib.ListN.{length, length-set}
@@ -14,7 +14,7 @@ use Rattle.control_point.specs.Direction.{clockwiseOf, antiClockwiseOf, flipOf,
 use Rattle.control_point.specs.DirectionLaws.{same-self}
 use Rattle.control_point.specs.Point.{sideOf, withSide, isMade, isOpening}
 use Rattle.control_point.specs.PointLaws.{isMade-made, isMade-room, made-isMade}
-use Rattle.control_point.specs.Sides.{Sides, sideAt, sidesWith, sidesWithPoint, linkedOf}
+use Rattle.control_point.specs.Sides.{Sides, sideAt, sidesWith, sidesWithPoint}
 use Rattle.control_point.specs.SidesLaws.{Agree}
 use Rattle.control_point.specs.Small.{small}
 use Rattle.control_point.specs.declared.refusal.Outcome.the-variants.{Done as Connected, Refused as NotConnected}
@@ -34,7 +34,6 @@ use Rattle.store.specs.StoreLaws.{room-kept, sides-side, sides-new, sides-linke
 use Rattle.store.specs.declared.store.Changed.{Changed}
 use Rattle.store.specs.declared.store.Store.{Store}
 use Rattle.insertion.specs.Insert.{inUnit, checkedIntervals, checkedFacing, checkedSide, checked, checkedLink, cut, pointInLine, parted, nearJoined, farJoined, placed, soughtSide, borderOr, newSide, withNewSide, isTorn, unlessTorn, openedCount, inferredCount, countedAnswer, firstSide, withFirst, secondSide, sided, passed, insertPoint}
-use Rattle.insertion.specs.Lent.{madeSide}
 use Rattle.insertion.specs.declared.insertion.NewSide.{NewSide}
 use Rattle.insertion.specs.declared.insertion.NewSide.the-variants.{Takes, Joins, Opens, Tears, Stays}
 use Rattle.insertion.specs.declared.insertion.Checked.{Checked}
@@ -44,13 +43,13 @@ use Rattle.insertion.specs.declared.insertion.Inserted.{Inserted}
 
 -- ---- connecting
 -- points that may be connected are linked
-pub connected : (store : Store) (first other : ℕ) (d : TmeshDirection) (interval : Float) → connectable (storeSides store) (store .made) first other d ≡ Connected
+connected : (store : Store) (first other : ℕ) (d : TmeshDirection) (interval : Float) → connectable (storeSides store) (store .made) first other d ≡ Connected
     → connectPoints store first other d interval ≡ done (linked store first other d interval)
 unfolding connectPoints
 connected store first other d interval h = simp h
 
 module _ (sides : Sides) (made first other : ℕ) (d : TmeshDirection) where
-  pub connectable-done : isMade made first ≡ true → isMade made other ≡ true → (first ≡ other → ⊥) → sides first d ≡ Opening → sides other (flipOf d) ≡ Opening
+  connectable-done : isMade made first ≡ true → isMade made other ≡ true → (first ≡ other → ⊥) → sides first d ≡ Opening → sides other (flipOf d) ≡ Opening
       → connectable sides made first other d ≡ Connected
   unfolding connectable
   connectable-done f o apart x y = simp (f, o, ne-eqb first other apart, x, y)
@@ -90,13 +89,13 @@ module _ (sides : Sides) (made p : ℕ) (f : TmeshDirection) where
   border-joins (Link n interval) new h = h
   border-joins Opening new h = h
 
-  pub new-joins : (e : Float) (con : ℕ) → MayJoin sides made p f (newSide e sides made con p f)
+  new-joins : (e : Float) (con : ℕ) → MayJoin sides made p f (newSide e sides made con p f)
   unfolding newSide
   new-joins e con =
       border-joins (sides con f) _
       (found-joins (findInferredConnection e (sidesWith sides p f Opening) made p f) (found-connects e (sidesWith sides p f Opening) made p f))
 
-  pub unless-joins : (first second : NewSide) → MayJoin sides made p f second → MayJoin sides made p f (unlessTorn first second)
+  unless-joins : (first second : NewSide) → MayJoin sides made p f second → MayJoin sides made p f (unlessTorn first second)
   unless-joins first second h = by-test (isTorn first)
     where
       by-test : (b : Bool) → MayJoin sides made p f (cond b Stays second)
@@ -125,7 +124,7 @@ module _ (store : Store) (room : length (store .points) ≡ 128) (p : ℕ) (h : 
   made-new-side Tears j = refl
   made-new-side Stays j = refl
 
-  pub room-new-side : (side : NewSide) → MayJoin (storeSides store) (store .made) p f side → length (withNewSide store p f side .points) ≡ 128
+  room-new-side : (side : NewSide) → MayJoin (storeSides store) (store .made) p f side → length (withNewSide store p f side .points) ≡ 128
   room-new-side (Takes weight) j = room-kept store room p _
   room-new-side (Joins n interval) j =
       ap (λ (c : Changed). length (c .store .points)) (joined-linked n interval j) ∙ rw (length-set, length-set, length-set) room
@@ -271,22 +270,6 @@ module _ (store : Store) (room : length (store .points) ≡ 128) (roomy : store 
     room-placed = ap (λ (s : Store). length (s .points)) placed-linked ∙ rw (length-set, length-set, length-set, length-set) room-parted
 
 -- ---- the checks
--- on two sides that were read, con's and the one that faces it
-module _ (e ratio : Float) (listed : Bool) (sides : Sides) (made con : ℕ) (d : TmeshDirection) where
-  facing-read : (b : Bool) (side : Side)
-      → checkedSide e made (cond b (Is side) (NoSide NoPoint)) (λ other. madeSide made other (sides (linkedOf side) (flipOf d)))
-      ≡ checkedSide e made (cond b (Is side) (NoSide NoPoint)) (λ other. sideAt sides made other (flipOf d))
-  facing-read true (Link other interval) = refl
-  facing-read true (Border weight) = refl
-  facing-read true Opening = refl
-  facing-read false side = refl
-
-  pub checked-read : (side : Side) → side ≡ sides con d → checked e ratio listed made (madeSide made con side) (λ other. madeSide made other (sides (linkedOf side) (flipOf d))) ≡ checkedLink e ratio listed sides made con d
-  unfolding checked
-  checked-read side is =
-      ap (λ (c : Checked). cond (inUnit ratio) (cond listed c (NotPassed Foreign)) (NotPassed Ratio)) (facing-read (isMade made con) side)
-      ∙ ap (λ (x : Side). cond (inUnit ratio) (cond listed (checkedSide e made (madeSide made con x) (λ other. sideAt sides made other (flipOf d))) (NotPassed Foreign)) (NotPassed Ratio)) is
-
 -- asked of sides that agree on all made numbers
 module _ (made : ℕ) (sides others : Sides) (agree : Agree made sides others) where
   side-agrees : (n : ℕ) (d : TmeshDirection) → sideAt sides made n d ≡ sideAt others made n d
@@ -366,7 +349,7 @@ counted-not : (torn : Bool) (opened inferred : ℕ) (refusal : Refusal) → coun
 counted-not true opened inferred refusal g = let z : _≡_ {A = ℕ} 0 1 = cc in omega arith
 counted-not false opened inferred refusal g = let z : _≡_ {A = ℕ} 0 1 = cc in omega arith
 
-pub sided-answers : (e : Float) (store : Store) (con p : ℕ) (d : TmeshDirection) (refusal : Refusal) → sided e store con p d .answer ≡ Refused refusal → ⊥
+sided-answers : (e : Float) (store : Store) (con p : ℕ) (d : TmeshDirection) (refusal : Refusal) → sided e store con p d .answer ≡ Refused refusal → ⊥
 unfolding sided
 sided-answers e store con p d refusal = counted-not (isTorn (firstSide e store con p d) || isTorn (secondSide e store con p d)) _ _ refusal
 

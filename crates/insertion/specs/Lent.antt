@@ -1,16 +1,11 @@
 -- Insertion into lent points: each change of the store by which p is placed and gets its sides, as a change of points.
 use Prim.Native.Nat.{ℕ}
-use mathlib.Core.Bool.{Bool, cond}
+use mathlib.Core.Bool.{Bool}
 use mathlib.Core.List.{List}
 use mathlib.Core.Path.{_≡_}
 use lib.Ieee.{Float, binary64, mul, sub}
 use Rattle.float64.specs.Literals.{oneLiteral}
 use Rattle.control_point.specs.Direction.{flipOf}
-use Rattle.control_point.specs.Point.{isMade}
-use Rattle.control_point.specs.declared.refusal.Refusal.the-variants.{NoPoint}
-use Rattle.control_point.specs.declared.sides.SideAnswer.{SideAnswer}
-use Rattle.control_point.specs.declared.sides.SideAnswer.the-variants.{Is, Refused}
-use Rattle.control_point.specs.declared.t_mesh_control_point.Side.{Side}
 use Rattle.control_point.specs.declared.t_mesh_control_point.Side.the-variants.{Border, Opening}
 use Rattle.control_point.specs.declared.t_mesh_control_point.TmeshControlPoint.{TmeshControlPoint}
 use Rattle.control_point.specs.declared.t_mesh_direction.TmeshDirection.{TmeshDirection}
@@ -20,10 +15,6 @@ use Rattle.insertion.specs.Insert.{pointInLine, insertPoint}
 use Rattle.insertion.specs.declared.insertion.NewSide.{NewSide}
 use Rattle.insertion.specs.declared.insertion.NewSide.the-variants.{Takes, Joins, Opens, Tears, Stays}
 use Rattle.insertion.specs.declared.insertion.InsertAnswer.{InsertAnswer}
-
--- a side that was read, where its point is made
-abbrev pub madeSide : ℕ → ℕ → Side → SideAnswer
-madeSide made n side = cond (isMade made n) (Is side) (Refused NoPoint)
 
 -- the link is cut and p is made
 abbrev pub pointsParted : Points → ℕ → ℕ → ℕ → TmeshDirection → Points

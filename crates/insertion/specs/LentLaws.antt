@@ -16,8 +16,8 @@ use Rattle.control_point.specs.declared.refusal.Refusal.{Refusal}
 use Rattle.control_point.specs.declared.t_mesh_control_point.Side.the-variants.{Border, Opening}
 use Rattle.control_point.specs.declared.t_mesh_control_point.TmeshControlPoint.{TmeshControlPoint}
 use Rattle.control_point.specs.declared.t_mesh_direction.TmeshDirection.{TmeshDirection}
-use Rattle.lent_points.specs.Lent.{Points, pointsWithSide, pointsFrom, Held, heldStore}
-use Rattle.lent_points.specs.LentLaws.{held-new, held-side, held-linked, held-agree, held-store}
+use Rattle.lent_points.specs.Lent.{Points, pointsWithSide, pointsFrom, Held}
+use Rattle.lent_points.specs.LentLaws.{held-new, held-side, held-linked, held-agree}
 use Rattle.search.specs.SearchLaws.{found-agrees}
 use Rattle.store.specs.Store.{storeSides, withSideAt}
 use Rattle.store.specs.declared.store.Changed.{Changed}
@@ -29,7 +29,6 @@ use Rattle.insertion.specs.declared.insertion.NewSide.{NewSide}
 use Rattle.insertion.specs.declared.insertion.NewSide.the-variants.{Takes, Joins, Opens, Tears, Stays}
 use Rattle.insertion.specs.declared.insertion.Checked.{Checked}
 use Rattle.insertion.specs.declared.insertion.Checked.the-variants.{Passed, Refused as NotPassed}
-use Rattle.insertion.specs.declared.insertion.InsertAnswer.{InsertAnswer}
 use Rattle.insertion.specs.declared.insertion.InsertAnswer.the-variants.{Refused}
 use Rattle.insertion.specs.declared.insertion.Inserted.{Inserted}
 
@@ -53,7 +52,7 @@ module _ {points : Points} {rest : List TmeshControlPoint} (store : Store) (held
       (held-side (withSideAt store con d Opening) (held-side store held con hc d Opening) other ho (flipOf d) Opening)
       roomy (pointInLine d)
 
-  pub held-placed : (interval ratio : Float) → Held (pointsPlaced points con other (store .made) d interval ratio) rest (placed store con other d interval ratio)
+  held-placed : (interval ratio : Float) → Held (pointsPlaced points con other (store .made) d interval ratio) rest (placed store con other d interval ratio)
   unfolding pointsPlaced
   held-placed interval ratio =
       rw (placed-linked store (held .room) roomy con other hc ho d interval ratio)
@@ -66,7 +65,7 @@ module _ {points : Points} {rest : List TmeshControlPoint} (store : Store) (held
   opened : Held (pointsWithSide points p f Opening) rest (withSideAt store p f Opening)
   opened = held-side store held p hp f Opening
 
-  pub held-new-side : (side : NewSide) → MayJoin (storeSides store) (store .made) p f side → Held (pointsWithNew points p f side) rest (withNewSide store p f side)
+  held-new-side : (side : NewSide) → MayJoin (storeSides store) (store .made) p f side → Held (pointsWithNew points p f side) rest (withNewSide store p f side)
   held-new-side (Takes weight) j = held-side store held p hp f (Border weight)
   held-new-side (Joins n interval) j =
       subst (λ (c : Changed). Held (pointsWithNew points p f (Joins n interval)) rest (c .store))
@@ -155,7 +154,7 @@ module _ (e : Float) (points after : Points) (rest : List TmeshControlPoint) (st
       ∙ ap (unlessTorn first) (asked (crossed .crossedSides) (crossed .crossedCoordinates) half held-half made-half (antiClockwiseOf d))
       ∙ ap (λ (side : NewSide). unlessTorn side (newSide e (storeSides half) (before .made) con p (antiClockwiseOf d))) first-same
 
-  pub sided-held : (answerOf first second ≡ sided e before con p d .answer) × Held after rest (sided e before con p d .store)
+  sided-held : (answerOf first second ≡ sided e before con p d .answer) × Held after rest (sided e before con p d .store)
   unfolding sided
   sided-held = (
     ap (λ (side : NewSide). answerOf side second) first-same ∙ ap (answerOf (firstSide e before con p d)) second-same,
@@ -198,9 +197,3 @@ inserted-made e store room listed con d ratio stands = by-checks (checkedCall e 
               ∙ sided-made e (placed store con other d interval ratio) (room-placed store room (w .roomy) con other (w .con-made) (w .other-made) d interval ratio) con (store .made) (w .roomy) d
               ∙ ap (λ (s : Store). s .made) same,
         )
-
--- ---- a store is always held: the answer is that of one store's insertion, and the points after it are those of that store after it
-pub inserts-held : (e : Float) (points : Points) (made : ℕ) (listed : Bool) (con : ℕ) (d : TmeshDirection) (ratio : Float) (answer : InsertAnswer) (after : Points) (rest : List TmeshControlPoint)
-    → length rest ≡ 128 → Inserts e points made listed con d ratio answer after
-    → (answer ≡ insertPoint e (heldStore points rest made) listed con d ratio .answer) × Held after rest (insertPoint e (heldStore points rest made) listed con d ratio .store)
-inserts-held e points made listed con d ratio answer after rest room inserts = inserts rest (heldStore points rest made) (held-store points rest made room) refl

@@ -1,5 +1,4 @@
 // The insertion of a point into lent points.
-ghost use mathlib.Core.Path.{_≡_};
 ghost use Rattle.lent_points.specs.Lent.{lentPoints, Room};
 ghost use Rattle.insertion.specs.Lent.{Inserts};
 use control_point::t_mesh_direction::TmeshDirection;
@@ -25,7 +24,10 @@ pub fn insert_point(
     ratio: f64,
 ) -> InsertAnswer
     requires { ⌜ Room (now kinds) (now numbers) (now intervals) (now coordinates) ⌝ }
-    ensures { λ r. ⌜ Room (now (kinds .exit)) (now (numbers .exit)) (now (intervals .exit)) (now (coordinates .exit)) × Inserts closeness (lentPoints (now (kinds .entry)) (now (numbers .entry)) (now (intervals .entry)) (now (coordinates .entry))) made listed con direction ratio r (lentPoints (now (kinds .exit)) (now (numbers .exit)) (now (intervals .exit)) (now (coordinates .exit))) ⌝ }
+    ensures { λ r.
+        let before = lentPoints (now (kinds .entry)) (now (numbers .entry)) (now (intervals .entry)) (now (coordinates .entry)) in
+        let after = lentPoints (now (kinds .exit)) (now (numbers .exit)) (now (intervals .exit)) (now (coordinates .exit)) in
+        ⌜ Room (now (kinds .exit)) (now (numbers .exit)) (now (intervals .exit)) (now (coordinates .exit)) × Inserts closeness before made listed con direction ratio r after ⌝ }
 {
     match check_link(
         closeness,

@@ -35,7 +35,10 @@ pub fn place(
     ratio: f64,
 )
     requires { ⌜ ((con < p) × ((other < p) × (p < 128))) × Room (now kinds) (now numbers) (now intervals) (now coordinates) ⌝ }
-    ensures { λ _. ⌜ Room (now (kinds .exit)) (now (numbers .exit)) (now (intervals .exit)) (now (coordinates .exit)) × (lentPoints (now (kinds .exit)) (now (numbers .exit)) (now (intervals .exit)) (now (coordinates .exit)) ≡ pointsPlaced (lentPoints (now (kinds .entry)) (now (numbers .entry)) (now (intervals .entry)) (now (coordinates .entry))) con other p direction interval ratio) ⌝ }
+    ensures { λ _.
+        let before = lentPoints (now (kinds .entry)) (now (numbers .entry)) (now (intervals .entry)) (now (coordinates .entry)) in
+        let after = lentPoints (now (kinds .exit)) (now (numbers .exit)) (now (intervals .exit)) (now (coordinates .exit)) in
+        ⌜ Room (now (kinds .exit)) (now (numbers .exit)) (now (intervals .exit)) (now (coordinates .exit)) × (after ≡ pointsPlaced before con other p direction interval ratio) ⌝ }
 {
     put_side(kinds, numbers, intervals, con, direction, Side::Opening);
     put_side(

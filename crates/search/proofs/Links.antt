@@ -1,7 +1,7 @@
 -- What the else of a `let Side::Link(..) = side else` says of the side: a move over it fails.
 use Prim.Native.Nat.{ℕ}
 use mathlib.Core.Path.{_≡_, refl}
-use mathlib.Core.List.{List, [], _∷_}
+use mathlib.Core.List.{[], _∷_}
 use mathlib.Core.Logic.{⊎-elim}
 use native.Mathlib.Omega.{arith}
 use lib.Ieee.{Float}

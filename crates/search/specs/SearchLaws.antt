@@ -1,9 +1,8 @@
 -- Laws of the search: what it is at each place that code meets, that a point found may be connected, and that it reads the sides of made
 -- points alone.
 use Prim.Native.Nat.{ℕ, zero, suc}
-use mathlib.Core.Path.{_≡_, refl, sym, ap, _∙_}
+use mathlib.Core.Path.{_≡_, refl, ap, _∙_}
 use mathlib.Core.Bool.{Bool, true, false, cond, _||_}
-use native.Mathlib.Omega.{arith}
 use lib.Dec.{eqb}
 use lib.Ieee.{Float, binary64, add, sub, lt}
 use Rattle.float64.specs.Literals.{zeroLiteral}

@@ -14,11 +14,10 @@ use Rattle.control_point.specs.PointLaws.{side-with, side-moved}
 use Rattle.control_point.specs.Sides.{Sides, sidesOf, sidesWith, sidesWithPoint}
 use Rattle.control_point.specs.SidesLaws.{sides-set}
 use Rattle.control_point.specs.declared.t_mesh_direction.TmeshDirection.{TmeshDirection}
-use Rattle.control_point.specs.declared.t_mesh_direction.TmeshDirection.the-variants.{Up, Right, Down, Left}
 use Rattle.control_point.specs.declared.t_mesh_control_point.Side.{Side}
 use Rattle.control_point.specs.declared.t_mesh_control_point.Side.the-variants.{Link, Opening}
 use Rattle.control_point.specs.declared.t_mesh_control_point.TmeshControlPoint.{TmeshControlPoint}
-use Rattle.store.specs.Store.{storeSides, storePoint, withPoint, withSideAt, withNew, linked, coordinated}
+use Rattle.store.specs.Store.{storeSides, storePoint, withPoint, withSideAt, withNew, linked}
 use Rattle.store.specs.declared.store.Store.{Store}
 
 -- a number with room has the sides of its point
@@ -48,23 +47,11 @@ module _ (store : Store) (room : length (store .points) ≡ 128) where
       one-by m e true x = differs e ∙ ap (cond (sameDirection e d) side) (there m e x)
       one-by m e false x = refl
 
-      pub sides-one : storeSides (withPoint store n p) ≡ sidesWith (storeSides store) n d side
+      sides-one : storeSides (withPoint store n p) ≡ sidesWith (storeSides store) n d side
       sides-one = sides-point p ∙ (λ i m e. one-by m e (eqb m n) refl i)
 
     pub sides-side : (d : TmeshDirection) (side : Side) → storeSides (withSideAt store n d side) ≡ sidesWith (storeSides store) n d side
     sides-side d side = sides-one (withSide (storePoint store n) d side) d side (λ e. side-with (storePoint store n) d e side)
-
-    -- other coordinates leave the sides
-    coordinated-by : (s t : Float) (m : ℕ) (e : TmeshDirection) (b : Bool) → eqb m n ≡ b
-        → cond b (sideOf (coordinated (storePoint store n) s t) e) (storeSides store m e) ≡ storeSides store m e
-    coordinated-by s t m Up true x = there m Up x
-    coordinated-by s t m Right true x = there m Right x
-    coordinated-by s t m Down true x = there m Down x
-    coordinated-by s t m Left true x = there m Left x
-    coordinated-by s t m e false x = refl
-
-    pub sides-coordinated : (s t : Float) → storeSides (withPoint store n (coordinated (storePoint store n) s t)) ≡ storeSides store
-    sides-coordinated s t = sides-point _ ∙ (λ i m e. coordinated-by s t m e (eqb m n) refl i)
 
 -- a link opened at both ends
 pub sides-opened : (store : Store) (room : length (store .points) ≡ 128) (n m : ℕ) (d : TmeshDirection) → n < 128 → m < 128

@@ -52,7 +52,8 @@ pub fn empty_store() -> Store
 pub fn make_loose(store: Store, weight: f64) -> Changed
     ensures is { λ r. ⌜ r ≡ makeLoose store weight ⌝ }
     ensures told { λ r. ⌜ outcomeTold (r .outcome) ≡ makeLooseTable store ⌝ }
-    ensures borders { λ r. ⌜ (r .outcome ≡ Done → ((d : TmeshDirection) → storeSides (r .store) (store .made) d ≡ Border weight) × ((storePoint (r .store) (store .made) .s ≡ minusOne) × (storePoint (r .store) (store .made) .t ≡ minusOne))) ⌝ }
+    ensures borders { λ r. ⌜ (r .outcome ≡ Done → ((d : TmeshDirection) → storeSides (r .store) (store .made) d ≡ Border weight)
+        × ((storePoint (r .store) (store .made) .s ≡ minusOne) × (storePoint (r .store) (store .made) .t ≡ minusOne))) ⌝ }
 {
     let made = store.made;
     if 128 <= made {

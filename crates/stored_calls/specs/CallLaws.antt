@@ -6,7 +6,7 @@ use native.Mathlib.Omega.{arith}
 use lib.Dec.{eqb, lit<}
 use Rattle.store.specs.declared.store.Store.{Store}
 use Rattle.big_endian.specs.BigEndian.{byteAt}
-use Rattle.stored_calls.specs.Call.{answerPlace, settled, change, replayWalk, replayCall, walkBytes}
+use Rattle.stored_calls.specs.Call.{answerPlace, settled, change, replayWalk, replayCall}
 use Rattle.stored_calls.specs.declared.call.Replayed.{Replayed}
 
 -- of two numbers below a bound either is

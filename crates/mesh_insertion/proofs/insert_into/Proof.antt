@@ -1,7 +1,7 @@
 -- `insert_into` meets its contract: the arrays hold the made points of the mesh, and after the insertion those of the definition.
-use Prim.Native.Nat.{ℕ, _<_, _≤_, _+_, _-_}
+use Prim.Native.Nat.{_<_, _≤_, _+_, _-_}
 use mathlib.Core.Path.{_≡_, refl, _∙_, sym, ap, subst}
-use mathlib.Core.Bool.{Bool, true, false}
+use mathlib.Core.Bool.{Bool, false}
 use mathlib.Core.List.{List}
 use native.Mathlib.Omega.{arith}
 use borrow.Author.Needs.{needs}
@@ -9,8 +9,8 @@ use borrow.Author.Tests.{not-true, not-false}
 use lib.ListN.{length, length-map, set}
 use Rattle.control_point.specs.PointLaws.{isMade-made, isMade-room, made-isMade}
 use Rattle.control_point.specs.declared.t_mesh_control_point.TmeshControlPoint.{TmeshControlPoint}
-use Rattle.lent_points.specs.Lent.{Points, lentPoints, Room, Held}
-use Rattle.lent_points.specs.LentLaws.{FilledTo, filled-none, filled-more, held-filled, PackedTo, packed-none, packed-more, held-packed}
+use Rattle.lent_points.specs.Lent.{lentPoints, Room, Held, FilledTo}
+use Rattle.lent_points.specs.LentLaws.{filled-none, filled-more, held-filled, PackedTo, packed-none, packed-more, held-packed}
 use Rattle.insertion.specs.Insert.{insertPoint}
 use Rattle.insertion.specs.declared.insertion.Inserted.{Inserted}
 use Rattle.t_mesh.specs.Insertion.{isRefused, answeredMesh, insertIntoMesh}

@@ -1,18 +1,15 @@
 -- `place` meets its contract: each store is one of the definition's, in its order.
-use Prim.Native.Nat.{_<_}
 use mathlib.Core.Path.{_≡_, _∙_, ap}
 use native.Mathlib.Omega.{arith}
 use denote.Ref.{now}
 use lib.Ieee.{binary64, mul, sub}
 use Rattle.float64.specs.Literals.{oneLiteral}
 use Rattle.control_point.specs.Direction.{flipOf}
-use Rattle.control_point.specs.Sides.{Sides, lentSides, sidesWith}
+use Rattle.control_point.specs.Sides.{lentSides, sidesWith}
 use Rattle.control_point.specs.declared.t_mesh_control_point.Side.the-variants.{Opening}
-use Rattle.control_point.specs.declared.t_mesh_control_point.TmeshControlPoint.{TmeshControlPoint}
 use Rattle.control_point.specs.declared.t_mesh_direction.TmeshDirection.{TmeshDirection}
 use Rattle.lent_points.specs.Lent.{Points, pointsWith, pointsWithSide, pointsLinked, lentPoints}
 use Rattle.lent_points.specs.LentLaws.{lent-side}
-use Rattle.insertion.specs.Insert.{pointInLine}
 use Rattle.insertion.specs.Lent.{pointsParted, pointsPlaced}
 use borrow.Author.Needs.{needs}
 use Rattle.placing.proofs.place.Statement.{statement}

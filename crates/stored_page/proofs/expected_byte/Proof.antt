@@ -1,5 +1,4 @@
 -- `expected_byte` meets its contract: in front of the buffer and behind what it holds the filler is due.
-use native.Mathlib.Omega.{arith}
 use borrow.Author.Needs.{needs}
 use Rattle.stored_page.specs.PageLaws.{expected-before, expected-within, expected-behind}
 use Rattle.stored_page.proofs.expected_byte.Statement.{statement}

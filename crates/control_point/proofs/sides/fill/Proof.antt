@@ -1,8 +1,8 @@
 -- `fill` meets its contract: at each turn the sides of the first n points are right.
 use borrow.Author.Needs.{needs}
 use native.Mathlib.Omega.{arith}
-use mathlib.Core.Path.{_≡_, _∙_, sym, ap, refl, subst}
-use Prim.Native.Nat.{ℕ, _≤_, _-_, _+_}
+use mathlib.Core.Path.{subst}
+use Prim.Native.Nat.{ℕ, _≤_, _-_}
 use Rattle.control_point.specs.Sides.{lentSides, Full}
 use Rattle.control_point.specs.SidesLaws.{RightTo, right-none, right-more, right-all}
 use Rattle.control_point.proofs.sides.fill.Statement.{statement}

@@ -1,8 +1,6 @@
 -- `put_point` meets its contract: four stores, one for each side, are the point's.
-use Rattle.control_point.specs.declared.t_mesh_direction.TmeshDirection.the-variants.{Up, Right, Down, Left}
-use native.Mathlib.Omega.{arith}
-use mathlib.Core.Path.{_≡_, _∙_, sym, ap, refl}
-use denote.Ref.{now}
+use Rattle.control_point.specs.declared.t_mesh_direction.TmeshDirection.the-variants.{Right, Down, Left}
+use mathlib.Core.Path.{_∙_, ap}
 use Rattle.control_point.specs.Sides.{Sides, sidesWith}
 use Rattle.control_point.specs.SidesLaws.{put-four}
 use borrow.Author.Needs.{needs}

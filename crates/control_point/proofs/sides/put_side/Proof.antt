@@ -1,6 +1,3 @@
-use lib.ListN.{length, set}
-use native.Mathlib.Omega.{arith}
-use mathlib.Core.Path.{_≡_, _∙_, sym, ap, refl}
 use denote.Ref.{now}
 use Rattle.control_point.specs.SidesLaws.{put-law, put-full}
 use borrow.Author.Needs.{needs}

@@ -1,7 +1,6 @@
 -- `side_at` meets its contract: the kind that stands at the place says which side is read.
-use mathlib.Core.Path.{_≡_, _∙_, sym, ap, refl}
 use denote.Ref.{now}
-use borrow.Author.Tests.{lt-ltb, le-ltb, eq-eqb, ne-eqb}
+use borrow.Author.Tests.{le-ltb}
 use Rattle.control_point.specs.Sides.{lentSides}
 use Rattle.control_point.specs.SidesLaws.{reads-link, reads-border, reads-opening}
 use borrow.Author.Needs.{needs}

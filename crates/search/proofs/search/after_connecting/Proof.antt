@@ -1,7 +1,7 @@
 -- `after_connecting` meets its contract: the refusal's number says whether the side was taken.
 use mathlib.Core.Path.{_∙_, sym}
 use borrow.Author.Needs.{needs}
-use borrow.Author.Tests.{eq-eqb, ne-eqb}
+use borrow.Author.Tests.{ne-eqb}
 use Rattle.search.proofs.search.after_connecting.Statement.{statement}
 use Rattle.search.proofs.search.after_connecting.Tie as tie
 

@@ -1,10 +1,9 @@
 -- `connect_test` meets its contract: each return picks its case by the tests that led there.
-use mathlib.Core.Bool.{true, false, cond, _&&_}
+use mathlib.Core.Bool.{true, cond, _&&_}
 use mathlib.Core.Path.{_≡_, _∙_, sym, ap}
 use borrow.Author.Needs.{needs}
 use borrow.Author.Tests.{not-true, not-false, eq-eqb, ne-eqb}
 use denote.Ref.{now}
-use lib.Dec.{eqb}
 use Rattle.control_point.specs.Connect.{connectable}
 use Rattle.control_point.specs.Direction.{flipOf}
 use Rattle.control_point.specs.Point.{isMade, isOpening}

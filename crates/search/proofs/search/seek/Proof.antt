@@ -6,7 +6,6 @@ use native.Mathlib.Omega.{arith}
 use borrow.Author.Needs.{needs}
 use denote.Ref.{now}
 use lib.Ieee.{Float, binary64, ofBits, add}
-use Rattle.control_point.specs.Direction.{antiClockwiseOf}
 use Rattle.control_point.specs.Sides.{Sides, lentSides}
 use Rattle.control_point.specs.declared.t_mesh_control_point.Side.{Side}
 use Rattle.search.proofs.Links.{move-refused}

@@ -1,12 +1,10 @@
 -- `store_is_right` meets its contract: the loop has compared the first n points.
-use Prim.Native.Nat.{ℕ, _+_, _*_, _-_, _≤_}
-use mathlib.Core.Bool.{Bool, _&&_}
-use mathlib.Core.List.{List}
-use mathlib.Core.Path.{_≡_, refl, sym, ap, _∙_}
+use Prim.Native.Nat.{_-_, _≤_}
+use mathlib.Core.Path.{_≡_, sym}
 use native.Mathlib.Omega.{arith}
 use borrow.Author.Needs.{needs}
-use borrow.Author.Tests.{lt-ltb, le-ltb}
-use Rattle.stored_calls.specs.Points.{pointIsRight, pointsAreRight, storeIsRight}
+use borrow.Author.Tests.{lt-ltb}
+use Rattle.stored_calls.specs.Points.{pointsAreRight, storeIsRight}
 use Rattle.stored_calls.specs.PointsLaws.{points-none, points-more, store-with-room}
 use Rattle.stored_calls.proofs.points.store_is_right.Statement.{statement}
 use Rattle.stored_calls.proofs.points.store_is_right.Tie as tie
