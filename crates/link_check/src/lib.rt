@@ -1,11 +1,10 @@
 // The checks before an insertion, in order.
 ghost use mathlib.Core.Path.{_≡_};
-ghost use Rattle.control_point.specs.Sides.{lentSides};
+ghost use Rattle.control_point.specs.Direction.{flipOf};
+ghost use Rattle.control_point.specs.Sides.{sideAt, lentSides};
 ghost use Rattle.control_point.specs.declared.sides.SideAnswer.the-variants.{Is};
-ghost use Rattle.insertion.specs.Insert.{inUnit, checkedIntervals, checkedFacing, checked, checkedLink};
-ghost use Rattle.insertion.specs.Lent.{madeSide};
+ghost use Rattle.insertion.specs.Insert.{inUnit, checkedIntervals, checkedFacing, checkedLink};
 use control_point::refusal::Refusal;
-use control_point::sides::linked_of;
 use control_point::sides::side_at;
 use control_point::small::so_small;
 use control_point::t_mesh_control_point::Side;
@@ -44,37 +43,28 @@ fn check_facing(closeness: f64, made: u8, other: u8, interval: f64, facing: Side
     }
 }
 
-// All checks, on con's side and the side that faces it, where these points are made.
-fn check(
+// The checks of a link to another point: it is made, and the side that faces con is right.
+fn check_other<'a>(
     closeness: f64,
-    ratio: f64,
-    listed: bool,
+    kinds: &'a [u8; 512],
+    numbers: &'a [u8; 512],
+    intervals: &'a [f64; 512],
     made: u8,
-    con: u8,
-    side: Side,
-    facing: Side,
+    other: u8,
+    interval: f64,
+    direction: TmeshDirection,
 ) -> Checked
-    ensures { λ r. ⌜ r ≡ checked closeness ratio listed made (madeSide made con side) (λ other. madeSide made other facing) ⌝ }
+    ensures { λ r. ⌜ r ≡ checkedFacing closeness made other interval (sideAt (lentSides (now (kinds .entry)) (now (numbers .entry)) (now (intervals .entry))) made other (flipOf direction)) ⌝ }
 {
-    if !in_unit(ratio) {
-        return Checked::Refused(Refusal::Ratio);
-    }
-    if !listed {
-        return Checked::Refused(Refusal::Foreign);
-    }
-    if !is_made(made, con) {
-        return Checked::Refused(Refusal::NoPoint);
-    }
-    let Side::Link(other, interval) = side else {
-        return Checked::Refused(side_refusal(side));
-    };
     if !is_made(made, other) {
         return Checked::Refused(Refusal::NoPoint);
     }
+    let back = direction.flip();
+    let facing = side_at(kinds, numbers, intervals, other, back);
     check_facing(closeness, made, other, interval, facing)
 }
 
-// All checks, over lent sides.
+// All checks, over lent sides. Nothing is read before con is known to be made, and the other point only where con has a link.
 pub fn check_link<'a>(
     closeness: f64,
     kinds: &'a [u8; 512],
@@ -88,7 +78,27 @@ pub fn check_link<'a>(
 ) -> Checked
     ensures { λ r. ⌜ r ≡ checkedLink closeness ratio listed (lentSides (now (kinds .entry)) (now (numbers .entry)) (now (intervals .entry))) made con direction ⌝ }
 {
+    if !in_unit(ratio) {
+        return Checked::Refused(Refusal::Ratio);
+    }
+    if !listed {
+        return Checked::Refused(Refusal::Foreign);
+    }
+    if !is_made(made, con) {
+        return Checked::Refused(Refusal::NoPoint);
+    }
     let side = side_at(kinds, numbers, intervals, con, direction);
-    let facing = side_at(kinds, numbers, intervals, linked_of(side), direction.flip());
-    check(closeness, ratio, listed, made, con, side, facing)
+    let Side::Link(other, interval) = side else {
+        return Checked::Refused(side_refusal(side));
+    };
+    check_other(
+        closeness,
+        kinds,
+        numbers,
+        intervals,
+        made,
+        other,
+        interval,
+        direction,
+    )
 }
