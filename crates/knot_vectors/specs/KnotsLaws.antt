@@ -22,20 +22,26 @@ use Rattle.knot_vectors.specs.Knots.{AllKnots, all, none, onAll, inRow, 
 use Rattle.knot_vectors.specs.declared.knots.Generated.{Generated}
 use Rattle.knot_vectors.specs.declared.knots.ListedKnots.{ListedKnots}
 
--- over sides that are a store's, also where the number was never made: its rays say so
-module _ (e : Float) (store : Store) (n : ℕ) where
+-- ---- a point's knots over sides
+module _ (e : Float) (store : Store) (n : ℕ) (sides : Sides) where
+  abbrev over : Float → Float → KnotsAnswer
+  over s t = knotsAt e sides (store .made) n s t
+
   abbrev overStore : KnotsAnswer
   overStore = knotsAt e (storeSides store) (store .made) n (storePoint store n .s) (storePoint store n .t)
 
-  by-made : (b : Bool) → isMade (store .made) n ≡ b → overStore ≡ pointKnotVectors e store n
-  unfolding pointKnotVectors knotsAt
-  by-made true h = simp h
-  by-made false h = simp (h, ray-unmade e (storeSides store) (store .made) Up n 2 h)
+  -- they are its store's if they are so where the number is made; where it was never made, its rays say so
+  module _ (s t : Float) (same : isMade (store .made) n ≡ true → over s t ≡ overStore) where
+    by-made : (b : Bool) → isMade (store .made) n ≡ b → over s t ≡ pointKnotVectors e store n
+    unfolding pointKnotVectors knotsAt
+    by-made true h = simp h (same h)
+    by-made false h = simp (h, ray-unmade e sides (store .made) Up n 2 h)
 
-  pub knots-over : (sides : Sides) → sides ≡ storeSides store
-      → knotsAt e sides (store .made) n (storePoint store n .s) (storePoint store n .t) ≡ pointKnotVectors e store n
-  knots-over sides h =
-      ap (λ (f : Sides). knotsAt e f (store .made) n (storePoint store n .s) (storePoint store n .t)) h ∙ by-made (isMade (store .made) n) refl
+    pub knots-made : over s t ≡ pointKnotVectors e store n
+    knots-made = by-made (isMade (store .made) n) refl
+
+  pub knots-over : sides ≡ storeSides store → over (storePoint store n .s) (storePoint store n .t) ≡ pointKnotVectors e store n
+  knots-over h = knots-made _ _ (λ made. ap (λ (f : Sides). knotsAt e f (store .made) n (storePoint store n .s) (storePoint store n .t)) h)
 
 -- ---- a turn of the loop
 module _ (e : Float) (map : Tmesh) (n : ℕ) (rows : List PointKnots) where

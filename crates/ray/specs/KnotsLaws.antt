@@ -1,12 +1,14 @@
--- Laws of knots: they go by the entries of four rays, as code holds them.
+-- Laws of knots: they go by the entries of four rays, as code holds them, and so by the sides of made points alone.
 use Prim.Native.Nat.{ℕ}
 use mathlib.Core.Path.{_≡_, refl}
 use lib.Ieee.{Float}
 use Rattle.control_point.specs.Sides.{Sides}
+use Rattle.control_point.specs.SidesLaws.{Agree}
 use Rattle.control_point.specs.declared.refusal.Outcome.{Outcome}
 use Rattle.control_point.specs.declared.refusal.Outcome.the-variants.{Done, Refused}
 use Rattle.control_point.specs.declared.t_mesh_direction.TmeshDirection.the-variants.{Up, Right, Down, Left}
 use Rattle.ray.specs.Ray.{Ray, entries, refused, rayOf, castOf}
+use Rattle.ray.specs.RayLaws.{ray-agrees}
 use Rattle.ray.specs.Knots.{noKnots, afterRay, knotsAbout, knotsAt, held, twoEntries, bothOf, inTurn}
 use Rattle.ray.specs.declared.knots.KnotsAnswer.{KnotsAnswer}
 use Rattle.ray.specs.declared.knots.TwoEntries.{TwoEntries}
@@ -17,7 +19,7 @@ whereDone Done answer = answer
 whereDone (Refused refusal) answer = noKnots (Refused refusal)
 
 -- a point's knots by the entries of its four rays
-abbrev pub knotsBy : Float → Float → TwoEntries → TwoEntries → TwoEntries → TwoEntries → KnotsAnswer
+abbrev knotsBy : Float → Float → TwoEntries → TwoEntries → TwoEntries → TwoEntries → KnotsAnswer
 knotsBy s t up right down left =
     whereDone (inTurn (up .outcome) (inTurn (right .outcome) (inTurn (down .outcome) (left .outcome))))
     (knotsAbout s t (bothOf up) (bothOf right) (bothOf down) (bothOf left))
@@ -36,3 +38,14 @@ knots-by e sides made n s t = by-rays (rayOf e sides made n Up 2) (rayOf e sides
     by-rays (entries a) (entries b) (refused refusal) left = refl
     by-rays (entries a) (entries b) (entries c) (refused refusal) = refl
     by-rays (entries a) (entries b) (entries c) (entries d) = refl
+
+-- over sides that agree on all made numbers
+pub knots-agrees : (e : Float) (made : ℕ) (sides others : Sides) → Agree made sides others → (n : ℕ) (s t : Float) → knotsAt e sides made n s t ≡ knotsAt e others made n s t
+unfolding knotsAt
+knots-agrees e made sides others agree n s t =
+    rw (
+      ray-agrees e made sides others agree Up n 2,
+      ray-agrees e made sides others agree Right n 2,
+      ray-agrees e made sides others agree Down n 2,
+      ray-agrees e made sides others agree Left n 2,
+    )

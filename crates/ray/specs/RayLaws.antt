@@ -1,7 +1,7 @@
--- Laws of rays: their next entry, and the entries that stand in a buffer in front of those to come.
-use Prim.Native.Nat.{ℕ, suc, _+_, _<_}
+-- Laws of rays: their next entry, that they read the sides of made points alone, and the entries that stand in a buffer in front of those to come.
+use Prim.Native.Nat.{ℕ, zero, suc, _+_, _<_}
 use mathlib.Core.Path.{_≡_, refl, sym, ap}
-use mathlib.Core.Bool.{true, false}
+use mathlib.Core.Bool.{true, false, cond}
 use mathlib.Core.List.{List, [], _++_}
 use native.Mathlib.Numerals.{add-one}
 use lib.Seq.{take-suc-set, append-snoc}
@@ -9,12 +9,15 @@ use lib.Ieee.{Float}
 use lib.ListN.{length, take, set, replicate}
 use Rattle.control_point.specs.Point.{isMade}
 use Rattle.control_point.specs.Sides.{Sides}
+use Rattle.control_point.specs.SidesLaws.{Agree}
 use Rattle.control_point.specs.declared.refusal.Outcome.the-variants.{Done, Refused}
 use Rattle.control_point.specs.declared.refusal.Refusal.{Refusal}
 use Rattle.control_point.specs.declared.refusal.Refusal.the-variants.{NoPoint}
 use Rattle.control_point.specs.declared.t_mesh_direction.TmeshDirection.{TmeshDirection}
 use Rattle.float64.specs.Literals.{zeroLiteral}
 use Rattle.ray_entry.specs.Entry.{onRay, entryOf}
+use Rattle.ray_entry.specs.EntryLaws.{FrontMade, entry-agrees}
+use Rattle.ray_entry.specs.declared.entry.Entry.{Entry}
 use Rattle.ray.specs.Ray.{Ray, entries, refused, before, afterEntry, rayFrom, rayOf, castOf}
 use Rattle.ray_entry.specs.declared.entry.Front.{Front}
 
@@ -35,6 +38,21 @@ module _ (e : Float) (sides : Sides) (made : ℕ) (d : TmeshDirection) where
   pub ray-made : (start n : ℕ) → isMade made start ≡ true → rayOf e sides made start d n ≡ rayFrom e sides made d n (onRay start false)
   unfolding rayOf
   ray-made start n h = simp h
+
+-- over sides that agree on all made numbers
+module _ (e : Float) (made : ℕ) (sides others : Sides) (agree : Agree made sides others) (d : TmeshDirection) where
+  from-agrees : (left : ℕ) (front : Front) → FrontMade made front → rayFrom e sides made d left front ≡ rayFrom e others made d left front
+  unfolding rayFrom
+  from-agrees zero front m = refl
+  from-agrees (suc left) front m =
+      entry-agrees e made sides others agree d
+      (λ (entry : Entry). afterEntry entry (λ next. rayFrom e sides made d left next))
+      (λ (entry : Entry). afterEntry entry (λ next. rayFrom e others made d left next))
+      (λ value next k. ap (before value) (from-agrees left next k)) (λ refusal. refl) front m
+
+  pub ray-agrees : (start n : ℕ) → rayOf e sides made start d n ≡ rayOf e others made start d n
+  unfolding rayOf
+  ray-agrees start n = ap (λ (ray : Ray). cond (isMade made start) ray (refused NoPoint)) (from-agrees n (onRay start false) tt)
 
 -- what a cast is, by its ray
 module _ (ray : Ray) (n : ℕ) (buffer : List Float) where
