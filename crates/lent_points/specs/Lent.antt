@@ -1,6 +1,6 @@
 -- The points of a store, lent as arrays of numbers: their sides in three, as `control_point` has them, and their coordinates in a fourth,
 -- s and t of each point in turn. Such arrays hold the made points of a store; where its other points stand is for their owner to say.
-use Prim.Native.Nat.{ℕ, zero, suc, _*_, _+_}
+use Prim.Native.Nat.{ℕ, _*_, _+_, _<_}
 use mathlib.Core.Bool.{true, false, cond}
 use mathlib.Core.List.{List}
 use mathlib.Core.Path.{_≡_}
@@ -73,19 +73,6 @@ pub record Held (points : Points) (rest : List TmeshControlPoint) (store : Store
   pub held : (n : ℕ) → isMade (store .made) n ≡ true → storePoint store n ≡ points n
   pub beyond : (n : ℕ) → isMade (store .made) n ≡ false → storePoint store n ≡ pointAt rest n
 
--- a list is the points of each store that is so held, of which so many are made
-abbrev pub Packs : Points → List TmeshControlPoint → ℕ → List TmeshControlPoint → Type 0
-Packs points rest made list = (held : List TmeshControlPoint) → Held points rest (record { points = held; made = made }) → list ≡ held
-
--- ---- the store of 128 points that is so held, whatever the points are, of which so many are made
--- the made ones of the points, and beyond those a list's
-abbrev pub madeOver : Points → List TmeshControlPoint → ℕ → Points
-madeOver points rest made n = cond (isMade made n) (points n) (pointAt rest n)
-
--- the first so many points put over those of a list
-unfoldable pub putOver : Points → ℕ → List TmeshControlPoint → List TmeshControlPoint
-putOver points zero rest = rest
-putOver points (suc count) rest = set (putOver points count rest) count (points count)
-
-abbrev pub heldStore : Points → List TmeshControlPoint → ℕ → Store
-heldStore points rest made = record { points = putOver (madeOver points rest made) 128 rest; made = made }
+-- the first so many points are those of a list
+abbrev pub FilledTo : ℕ → Points → List TmeshControlPoint → Type 0
+FilledTo count points list = (n : ℕ) → n < count → points n ≡ pointAt list n

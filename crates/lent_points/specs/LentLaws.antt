@@ -1,6 +1,6 @@
 -- Laws of lent points: what the arrays hold after a store to them, and that they hold the points of a store through each change of it.
-use Prim.Native.Nat.{ℕ, zero, suc, _<_, _≤_, _+_, _*_}
-use mathlib.Core.Path.{_≡_, refl, sym, ap, _∙_, subst}
+use Prim.Native.Nat.{ℕ, _<_, _≤_, _+_, _*_}
+use mathlib.Core.Path.{_≡_, refl, sym, ap, _∙_}
 use mathlib.Core.Bool.{Bool, true, false, cond, _&&_}
 use mathlib.Core.List.{List}
 use native.Mathlib.Omega.{arith}
@@ -22,7 +22,7 @@ use Rattle.control_point.specs.declared.t_mesh_direction.TmeshDirection.the-var
 use Rattle.store.specs.Store.{storeSides, storePoint, withPoint, withSideAt, withNew, linked, coordinated}
 use Rattle.store.specs.StoreLaws.{side-read}
 use Rattle.store.specs.declared.store.Store.{Store}
-use Rattle.lent_points.specs.Lent.{Points, pointsWith, pointsWithSide, pointsLinked, acrossAt, upwardsAt, coordinatesWith, pointsFrom, lentPoints, Held, Packs, madeOver, putOver, heldStore}
+use Rattle.lent_points.specs.Lent.{Points, pointsWith, pointsWithSide, pointsLinked, acrossAt, upwardsAt, coordinatesWith, pointsFrom, lentPoints, Held, FilledTo}
 
 -- ---- the coordinates after a store
 module _ (coordinates : List Float) (full : length coordinates ≡ 256) (n : ℕ) (h : n < 128) (s t : Float) where
@@ -67,12 +67,12 @@ module _ (sides : Sides) (coordinates : List Float) (n : ℕ) where
     side-by m true x = ap (λ (k : ℕ). withSide (before k) d side) (eqb-true m n x)
     side-by m false x = refl
 
-    pub from-side : pointsFrom (sidesWith sides n d side) coordinates ≡ pointsWithSide before n d side
+    from-side : pointsFrom (sidesWith sides n d side) coordinates ≡ pointsWithSide before n d side
     from-side = λ i m. side-by m (eqb m n) refl i
 
   module _ (full : length coordinates ≡ 256) (h : n < 128) where
     -- to the coordinates
-    pub from-coordinates : (s t : Float) → pointsFrom sides (coordinatesWith coordinates n s t) ≡ pointsWith before n (coordinated (before n) s t)
+    from-coordinates : (s t : Float) → pointsFrom sides (coordinatesWith coordinates n s t) ≡ pointsWith before n (coordinated (before n) s t)
     from-coordinates s t = λ i m. by-test m (eqb m n) refl i
       where
         by-test : (m : ℕ) (b : Bool) → eqb m n ≡ b → pointsFrom sides (coordinatesWith coordinates n s t) m ≡ cond b (coordinated (before n) s t) (before m)
@@ -243,9 +243,6 @@ made-below made n m h k = by-test (ltb m n) refl
         absurd (true-false (sym (made-too (omega (arith, ltb-false m n x, isMade-made made m k)) (omega (arith, ltb-false m n x, isMade-room made m k))) ∙ h))
 
 -- ---- points filled in from a list, one after another
-abbrev pub FilledTo : ℕ → Points → List TmeshControlPoint → Type 0
-FilledTo count points list = (n : ℕ) → n < count → points n ≡ pointAt list n
-
 pub filled-none : (points : Points) (list : List TmeshControlPoint) → FilledTo 0 points list
 filled-none points list n h = absurd (omega (arith, h))
 
@@ -298,29 +295,3 @@ held-packed points rest list store count few room held made within p =
       where
         not-less : (n < count → ⊥) → count ≤ n
         not-less f = omega (arith, f)
-
--- ---- a store is always held: what is promised of every store that is, is promised of one
-put-over : (points : Points) (rest : List TmeshControlPoint) (count : ℕ) → count ≤ length rest → PackedTo count points rest (putOver points count rest)
-unfolding putOver
-put-over points rest zero h = packed-none points rest
-put-over points rest (suc count) h =
-    subst (λ (n : ℕ). PackedTo n points rest (set (putOver points count rest) count (points count))) (omega arith)
-    (packed-more count points rest (putOver points count rest) (omega (arith, h)) (put-over points rest count (omega (arith, h))))
-
-pub held-store : (points : Points) (rest : List TmeshControlPoint) (made : ℕ) → length rest ≡ 128 → Held points rest (heldStore points rest made)
-held-store points rest made room =
-    record { room = all .same-length ∙ room; held = λ n h. all .packed n (isMade-room made n h) ∙ by-made n true h; beyond = λ n h. not-made n (ltb n 128) refl h }
-  where
-    all : PackedTo 128 (madeOver points rest made) rest (putOver (madeOver points rest made) 128 rest)
-    all = put-over (madeOver points rest made) rest 128 (omega (arith, room))
-
-    by-made : (n : ℕ) (b : Bool) → isMade made n ≡ b → madeOver points rest made n ≡ cond b (points n) (pointAt rest n)
-    by-made n b h = ap (λ (x : Bool). cond x (points n) (pointAt rest n)) h
-
-    not-made : (n : ℕ) (b : Bool) → ltb n 128 ≡ b → isMade made n ≡ false → storePoint (heldStore points rest made) n ≡ pointAt rest n
-    not-made n true x h = all .packed n (ltb-true n 128 x) ∙ by-made n false h
-    not-made n false x h = all .left n (ltb-false n 128 x)
-
--- so the points packed are those of that store
-pub packs-held : (points : Points) (rest list : List TmeshControlPoint) (made : ℕ) → length rest ≡ 128 → Packs points rest made list → list ≡ heldStore points rest made .points
-packs-held points rest list made room packs = packs (heldStore points rest made .points) (held-store points rest made room)

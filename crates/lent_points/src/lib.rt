@@ -1,28 +1,29 @@
 // The points of a store, lent as arrays of numbers: their sides in three, and their coordinates in a fourth, s and t of each in turn. That
-// the arrays have their length is a premise, which their type meets; those who own such arrays, in this repository, call these functions.
+// a number is below 128 is a premise, and of what writes that the arrays have their length, which their type meets; those who own such arrays, in this
+// repository, call these functions.
 ghost use mathlib.Core.Path.{_≡_};
 ghost use Prim.Native.Nat.{_<_};
 ghost use lib.ListN.{length};
-ghost use Rattle.lent_points.specs.Lent.{lentPoints, pointsWith, pointsLinked, Room, Held, Packs, acrossAt, upwardsAt, coordinatesWith};
+ghost use Rattle.lent_points.specs.Lent.{lentPoints, pointsWith, pointsLinked, Room, acrossAt, upwardsAt, coordinatesWith};
 use control_point::sides::put_point;
 use control_point::sides::put_side;
 use control_point::sides::side_at;
 use control_point::sides::wide;
 use control_point::t_mesh_control_point::Side;
 use control_point::t_mesh_control_point::TmeshControlPoint;
-use control_point::t_mesh_control_point::is_made;
 use control_point::t_mesh_control_point::moved_across;
 use control_point::t_mesh_control_point::moved_upwards;
 use control_point::t_mesh_direction::TmeshDirection;
 
-fn across_at<'a>(coordinates: &'a [f64; 256], n: u8) -> f64
+// The coordinates of the point under a number.
+pub fn across_at<'a>(coordinates: &'a [f64; 256], n: u8) -> f64
     requires { ⌜ n < 128 ⌝ }
     ensures { λ r. ⌜ r ≡ acrossAt (now (coordinates .entry)) n ⌝ }
 {
     coordinates[wide(n) * 2]
 }
 
-fn upwards_at<'a>(coordinates: &'a [f64; 256], n: u8) -> f64
+pub fn upwards_at<'a>(coordinates: &'a [f64; 256], n: u8) -> f64
     requires { ⌜ n < 128 ⌝ }
     ensures { λ r. ⌜ r ≡ upwardsAt (now (coordinates .entry)) n ⌝ }
 {
@@ -69,7 +70,10 @@ pub fn put_lent_point(
     point: TmeshControlPoint,
 )
     requires { ⌜ (n < 128) × Room (now kinds) (now numbers) (now intervals) (now coordinates) ⌝ }
-    ensures { λ _. ⌜ Room (now (kinds .exit)) (now (numbers .exit)) (now (intervals .exit)) (now (coordinates .exit)) × (lentPoints (now (kinds .exit)) (now (numbers .exit)) (now (intervals .exit)) (now (coordinates .exit)) ≡ pointsWith (lentPoints (now (kinds .entry)) (now (numbers .entry)) (now (intervals .entry)) (now (coordinates .entry))) n point) ⌝ }
+    ensures { λ _.
+        let before = lentPoints (now (kinds .entry)) (now (numbers .entry)) (now (intervals .entry)) (now (coordinates .entry)) in
+        let after = lentPoints (now (kinds .exit)) (now (numbers .exit)) (now (intervals .exit)) (now (coordinates .exit)) in
+        ⌜ Room (now (kinds .exit)) (now (numbers .exit)) (now (intervals .exit)) (now (coordinates .exit)) × (after ≡ pointsWith before n point) ⌝ }
 {
     put_point(kinds, numbers, intervals, n, point);
     put_coordinates(coordinates, n, point.s, point.t);
@@ -87,7 +91,10 @@ pub fn link(
     interval: f64,
 )
     requires { ⌜ ((first < 128) × ((other < 128) × (other ≡ first → ⊥))) × Room (now kinds) (now numbers) (now intervals) (now coordinates) ⌝ }
-    ensures { λ _. ⌜ Room (now (kinds .exit)) (now (numbers .exit)) (now (intervals .exit)) (now (coordinates .exit)) × (lentPoints (now (kinds .exit)) (now (numbers .exit)) (now (intervals .exit)) (now (coordinates .exit)) ≡ pointsLinked (lentPoints (now (kinds .entry)) (now (numbers .entry)) (now (intervals .entry)) (now (coordinates .entry))) first other direction interval) ⌝ }
+    ensures { λ _.
+        let before = lentPoints (now (kinds .entry)) (now (numbers .entry)) (now (intervals .entry)) (now (coordinates .entry)) in
+        let after = lentPoints (now (kinds .exit)) (now (numbers .exit)) (now (intervals .exit)) (now (coordinates .exit)) in
+        ⌜ Room (now (kinds .exit)) (now (numbers .exit)) (now (intervals .exit)) (now (coordinates .exit)) × (after ≡ pointsLinked before first other direction interval) ⌝ }
 {
     put_side(
         kinds,
@@ -108,44 +115,4 @@ pub fn link(
     let s = moved_across(across_at(coordinates, first), direction, interval);
     let t = moved_upwards(upwards_at(coordinates, first), direction, interval);
     put_coordinates(coordinates, other, s, t);
-}
-
-// The made points of a store, lent.
-pub fn unpack(
-    kinds: &mut [u8; 512],
-    numbers: &mut [u8; 512],
-    intervals: &mut [f64; 512],
-    coordinates: &mut [f64; 256],
-    points: [TmeshControlPoint; 128],
-    made: u8,
-)
-    requires { ⌜ Room (now kinds) (now numbers) (now intervals) (now coordinates) ⌝ }
-    ensures { λ _. ⌜ Room (now (kinds .exit)) (now (numbers .exit)) (now (intervals .exit)) (now (coordinates .exit)) × Held (lentPoints (now (kinds .exit)) (now (numbers .exit)) (now (intervals .exit)) (now (coordinates .exit))) points (record { points = points; made = made }) ⌝ }
-{
-    let mut n: u8 = 0;
-    while is_made(made, n) {
-        let point = points[n as usize];
-        put_lent_point(kinds, numbers, intervals, coordinates, n, point);
-        n += 1;
-    }
-}
-
-// The points of the store that lent points hold, of which so many are made: the other ones stand among these.
-pub fn packed<'a>(
-    kinds: &'a [u8; 512],
-    numbers: &'a [u8; 512],
-    intervals: &'a [f64; 512],
-    coordinates: &'a [f64; 256],
-    mut points: [TmeshControlPoint; 128],
-    made: u8,
-) -> [TmeshControlPoint; 128]
-    ensures { λ r. ⌜ Packs (lentPoints (now (kinds .entry)) (now (numbers .entry)) (now (intervals .entry)) (now (coordinates .entry))) points made r ⌝ }
-{
-    let mut k: u8 = 0;
-    while is_made(made, k) {
-        let point = lent_point(kinds, numbers, intervals, coordinates, k);
-        points[k as usize] = point;
-        k += 1;
-    }
-    points
 }

@@ -1,19 +1,19 @@
 -- A map lent for evaluation: of each point its knots across, its knots upwards, its position and whether it is listed, each in an array of its
 -- own. A map is lent with its knots kept, those that it keeps or those built, as `subs` has them; where building them is refused nothing is
 -- lent. e is the closeness.
-use Prim.Native.Nat.{ℕ, zero, suc, _+_}
+use Prim.Native.Nat.{ℕ}
 use mathlib.Core.Bool.{Bool, true, false}
-use mathlib.Core.List.{List, [], _∷_, map}
+use mathlib.Core.List.{List, [], map}
 use mathlib.Core.Path.{_≡_}
-use lib.Ieee.{Float, nan}
+use lib.Ieee.{Float}
 use lib.ListN.{length, getD, replicate}
 use Rattle.float64.specs.Literals.{zeroLiteral}
 use Rattle.control_point.specs.Told.{Told, tells}
 use Rattle.control_point.specs.declared.refusal.Outcome.{Outcome}
 use Rattle.control_point.specs.declared.refusal.Outcome.the-variants.{Done, Refused}
 use Rattle.store.specs.Store.{emptyStore}
+use Rattle.lent_mesh.specs.LentMesh.{rowOf, lentPosition, valuesFrom}
 use Rattle.ray.specs.declared.knots.PointKnots.{PointKnots}
-use Rattle.t_mesh.specs.declared.t_mesh.Position.{Position}
 use Rattle.t_mesh.specs.declared.t_mesh.Tmesh.{Tmesh}
 use Rattle.knot_vectors.specs.declared.knots.Generated.{Generated}
 use Rattle.surface.specs.Evaluation.{withKnots, withKnotsTable}
@@ -32,23 +32,11 @@ lent across upwards positions listed = record { across = across; upwards = upwar
 abbrev pub lentKnots : List (List Float) → List (List Float) → ℕ → PointKnots
 lentKnots across upwards n = record { s = getD across n []; t = getD upwards n [] }
 
--- its position: x, y and z in turn
-abbrev pub lentPosition : List (List Float) → ℕ → Position
-lentPosition positions n = record { x = getD (getD positions n []) 0 nan; y = getD (getD positions n []) 1 nan; z = getD (getD positions n []) 2 nan }
-
-abbrev pub inTurn : Position → List Float
-inTurn p = p .x ∷ (p .y ∷ (p .z ∷ []))
-
 -- they have their lengths
 abbrev pub Full : List (List Float) → List (List Float) → List (List Float) → Type 0
 Full across upwards positions = (length across ≡ 128) × ((length upwards ≡ 128) × (length positions ≡ 128))
 
 -- ---- the map that they hold: its knots are kept; of its points, which no evaluation reads, none is made
--- the values of a function at so many numbers, from n on
-unfoldable pub valuesFrom : {A : Type 0} → (ℕ → A) → ℕ → ℕ → List A
-valuesFrom f zero n = []
-valuesFrom f (suc left) n = f n ∷ valuesFrom f left (n + 1)
-
 abbrev pub heldMap : List (List Float) → List (List Float) → List (List Float) → List Bool → Tmesh
 heldMap across upwards positions listed =
     record {
@@ -63,7 +51,7 @@ heldBy arrays = heldMap (arrays .across) (arrays .upwards) (arrays .positions) (
 -- ---- `lend`
 -- a map's arrays
 unfoldable pub lentOf : Tmesh → LentArrays
-lentOf own = lent (map (λ k. k .s) (own .knots)) (map (λ k. k .t) (own .knots)) (map inTurn (own .mesh .positions)) (own .mesh .listed)
+lentOf own = lent (map (λ k. k .s) (own .knots)) (map (λ k. k .t) (own .knots)) (map rowOf (own .mesh .positions)) (own .mesh .listed)
 
 -- nothing lent: all 0.0, and nothing listed
 unfoldable pub noneLent : LentArrays

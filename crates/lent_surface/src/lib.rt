@@ -4,8 +4,9 @@ ghost use Prim.Native.Nat.{_<_};
 ghost use lib.ListN.{set};
 ghost use Rattle.control_point.specs.Small.{millionth};
 ghost use Rattle.control_point.specs.Told.{outcomeTold};
+ghost use Rattle.lent_mesh.specs.LentMesh.{rowOf, lentPosition};
 ghost use Rattle.surface.specs.Evaluation.{shareBy, valueOf, withKnots};
-ghost use Rattle.lent_surface.specs.Lent.{Full, lent, lentKnots, lentPosition, inTurn, heldMap, lentOf, noneLent, lendOf, lendTable};
+ghost use Rattle.lent_surface.specs.Lent.{Full, lent, lentKnots, heldMap, lentOf, noneLent, lendOf, lendTable};
 use basis::basis_function;
 use control_point::refusal::Outcome;
 use knot_vectors::knots::Generated;
@@ -56,7 +57,7 @@ fn lend_point(
     position: Position,
 )
     requires { ⌜ (n < 128) × Full (now across) (now upwards) (now positions) ⌝ }
-    ensures { λ _. ⌜ (now (across .exit) ≡ set (now (across .entry)) n (knots .s)) × ((now (upwards .exit) ≡ set (now (upwards .entry)) n (knots .t)) × (now (positions .exit) ≡ set (now (positions .entry)) n (inTurn position))) ⌝ }
+    ensures { λ _. ⌜ (now (across .exit) ≡ set (now (across .entry)) n (knots .s)) × ((now (upwards .exit) ≡ set (now (upwards .entry)) n (knots .t)) × (now (positions .exit) ≡ set (now (positions .entry)) n (rowOf position))) ⌝ }
 {
     let s = knots.s;
     let t = knots.t;

@@ -2,7 +2,7 @@
 -- shape can depend on them. A point is listed once its insertion is done; the listing's order is that of the numbers.
 use Prim.Native.Nat.{ℕ}
 use mathlib.Core.Bool.{Bool, true, false}
-use mathlib.Core.List.{List, _∷_}
+use mathlib.Core.List.{List, [], _∷_, _++_}
 use lib.Ieee.{Float}
 use lib.ListN.{getD, replicate}
 use Rattle.float64.specs.Literals.{zeroLiteral, oneLiteral}
@@ -54,17 +54,17 @@ abbrev pub corner : Side → Side → Side → Side → Float → Float → Tmes
 corner up right down left s t = record { up = up; right = right; down = down; left = left; s = s; t = t }
 
 -- corners 0 to 3 anticlockwise from bottom left, corner 0 at (0, 0), four links of 1.0, eight borders of the given weight
+abbrev pub corners : Float → List TmeshControlPoint
+corners weight =
+    corner (Link 3 oneLiteral) (Link 1 oneLiteral) (Border weight) (Border weight) zeroLiteral zeroLiteral
+    ∷ (corner (Link 2 oneLiteral) (Border weight) (Border weight) (Link 0 oneLiteral) oneLiteral zeroLiteral
+    ∷ (corner (Border weight) (Border weight) (Link 1 oneLiteral) (Link 3 oneLiteral) oneLiteral oneLiteral
+    ∷ (corner (Border weight) (Link 2 oneLiteral) (Link 0 oneLiteral) (Border weight) zeroLiteral oneLiteral
+    ∷ [])))
+
+-- they and nothing else are made
 abbrev pub cornerStore : Float → Store
-cornerStore weight =
-    record {
-      points =
-          corner (Link 3 oneLiteral) (Link 1 oneLiteral) (Border weight) (Border weight) zeroLiteral zeroLiteral
-          ∷ (corner (Link 2 oneLiteral) (Border weight) (Border weight) (Link 0 oneLiteral) oneLiteral zeroLiteral
-          ∷ (corner (Border weight) (Border weight) (Link 1 oneLiteral) (Link 3 oneLiteral) oneLiteral oneLiteral
-          ∷ (corner (Border weight) (Link 2 oneLiteral) (Link 0 oneLiteral) (Border weight) zeroLiteral oneLiteral
-          ∷ replicate 124 (loosePoint zeroLiteral))));
-      made = 4;
-    }
+cornerStore weight = record { points = corners weight ++ replicate 124 (loosePoint zeroLiteral); made = 4 }
 
 -- what stands where there is no point, and where no knots are kept
 abbrev pub origin : Position

@@ -17,6 +17,7 @@ pub struct InsertedMesh {
     pub mesh: Mesh,
 }
 
+// Torn is neither done nor refused.
 pub fn is_done(answer: InsertAnswer) -> bool
     ensures { λ r. ⌜ r ≡ isDone answer ⌝ }
 {

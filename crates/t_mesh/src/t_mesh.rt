@@ -1,6 +1,6 @@
 // The map and its parts.
 ghost use mathlib.Core.Path.{_≡_};
-ghost use Rattle.t_mesh.specs.Tmesh.{meshStore, withStore, corner, cornerStore, listedIn, newTmesh};
+ghost use Rattle.t_mesh.specs.Tmesh.{meshStore, withStore, corner, corners, cornerStore, listedIn, newTmesh};
 use control_point::t_mesh_control_point::Side;
 use control_point::t_mesh_control_point::TmeshControlPoint;
 use control_point::t_mesh_control_point::loose_point;
@@ -77,43 +77,55 @@ fn corner(up: Side, right: Side, down: Side, left: Side, s: f64, t: f64) -> Tmes
     }
 }
 
+// The four corners, anticlockwise from bottom left.
+pub fn corners(weight: f64) -> [TmeshControlPoint; 4]
+    ensures { λ r. ⌜ r ≡ corners weight ⌝ }
+{
+    let border = Side::Border(weight);
+    let bottom_left = corner(
+        Side::Link(3, 1.0),
+        Side::Link(1, 1.0),
+        border,
+        border,
+        0.0,
+        0.0,
+    );
+    let bottom_right = corner(
+        Side::Link(2, 1.0),
+        border,
+        border,
+        Side::Link(0, 1.0),
+        1.0,
+        0.0,
+    );
+    let top_right = corner(
+        border,
+        border,
+        Side::Link(1, 1.0),
+        Side::Link(3, 1.0),
+        1.0,
+        1.0,
+    );
+    let top_left = corner(
+        border,
+        Side::Link(2, 1.0),
+        Side::Link(0, 1.0),
+        border,
+        0.0,
+        1.0,
+    );
+    [bottom_left, bottom_right, top_right, top_left]
+}
+
 fn corner_store(weight: f64) -> Store
     ensures { λ r. ⌜ r ≡ cornerStore weight ⌝ }
 {
-    let border = Side::Border(weight);
+    let four = corners(weight);
     let mut points = [loose_point(0.0); 128];
-    points[0] = corner(
-        Side::Link(3, 1.0),
-        Side::Link(1, 1.0),
-        border,
-        border,
-        0.0,
-        0.0,
-    );
-    points[1] = corner(
-        Side::Link(2, 1.0),
-        border,
-        border,
-        Side::Link(0, 1.0),
-        1.0,
-        0.0,
-    );
-    points[2] = corner(
-        border,
-        border,
-        Side::Link(1, 1.0),
-        Side::Link(3, 1.0),
-        1.0,
-        1.0,
-    );
-    points[3] = corner(
-        border,
-        Side::Link(2, 1.0),
-        Side::Link(0, 1.0),
-        border,
-        0.0,
-        1.0,
-    );
+    points[0] = four[0];
+    points[1] = four[1];
+    points[2] = four[2];
+    points[3] = four[3];
     Store { points, made: 4 }
 }
 

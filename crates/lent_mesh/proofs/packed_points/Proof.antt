@@ -1,20 +1,22 @@
--- `packed` meets its contract: up to the first number that is not made, each point of the arrays stands in the list.
+-- `packed_points` meets its contract: up to the first number that is not made, each point of the arrays stands in the list.
 use Prim.Native.Nat.{ℕ, _<_, _≤_, _+_, _-_}
 use mathlib.Core.Path.{_≡_, refl, _∙_, sym, ap, subst}
 use mathlib.Core.Bool.{Bool, true, false}
+use mathlib.Core.List.{List}
 use native.Mathlib.Omega.{arith}
 use borrow.Author.Needs.{needs}
 use borrow.Author.Tests.{eqb-true, eqb-false}
 use lib.Dec.{eqb}
 use denote.Ref.{now}
-use lib.ListN.{length, set}
+use lib.ListN.{length, length-replicate, replicate, set}
 use Rattle.control_point.specs.PointLaws.{isMade-room}
 use Rattle.control_point.specs.Point.{isMade}
 use Rattle.control_point.specs.declared.t_mesh_control_point.TmeshControlPoint.{TmeshControlPoint}
 use Rattle.lent_points.specs.Lent.{Points, lentPoints}
-use Rattle.lent_points.specs.LentLaws.{PackedTo, packed-none, packed-more, held-packed, made-below}
-use Rattle.lent_points.proofs.packed.Statement.{statement}
-use Rattle.lent_points.proofs.packed.Tie as tie
+use Rattle.lent_points.specs.LentLaws.{PackedTo, packed-none, packed-more, made-below}
+use Rattle.lent_mesh.specs.LentMeshLaws.{packed-all}
+use Rattle.lent_mesh.proofs.packed_points.Statement.{statement}
+use Rattle.lent_mesh.proofs.packed_points.Tie as tie
 
 abbrev Inv-loop : tie.InvT-loop
 Inv-loop kinds numbers intervals coordinates made points₀ k₀ points k = (k ≤ 128) × (((m : ℕ) → m < k → isMade made m ≡ true) × PackedTo k (lentPoints kinds numbers intervals coordinates) points₀ points)
@@ -25,10 +27,14 @@ abbrev μ-loop : tie.MeasureT-loop
 abbrev lent : tie.Start Inv-loop μ-loop → Points
 lent c = let a = c .args in lentPoints (now (a .kinds)) (now (a .numbers)) (now (a .intervals)) (now (a .coordinates))
 
-room : (c : tie.Start Inv-loop μ-loop) → length (c .args .t5) ≡ 128
-room c = c .good .1 .1 .1 .1 .0 .1 .0 .1
+-- the loose points below
+abbrev loose : tie.After-loose-point Inv-loop μ-loop → List TmeshControlPoint
+loose c = replicate 128 (c .loose-point .result)
 
-turn-made : (c : tie.Then1 Inv-loop μ-loop) → isMade (c .before .before .before .args .made) (c .before .before .loop .k) ≡ true
+room : (c : tie.After-loose-point Inv-loop μ-loop) → length (loose c) ≡ 128
+room c = length-replicate 128 (c .loose-point .result)
+
+turn-made : (c : tie.Then1 Inv-loop μ-loop) → isMade (c .before .before .before .before .args .made) (c .before .before .loop .k) ≡ true
 turn-made c = sym (c .before .is-made .ensures) ∙ c .if1 .taken
 
 turn-room : (c : tie.Then1 Inv-loop μ-loop) → c .before .before .loop .k < 128
@@ -41,8 +47,11 @@ one-more made n all this m h = by-test (eqb m n) refl
     by-test true e = ap (isMade made) (eqb-true m n e) ∙ this
     by-test false e = all m (omega (arith, h, eqb-false m n e))
 
+loose-point-requires : tie.Need-loose-point-requires Inv-loop μ-loop
+loose-point-requires c κs = search needs
+
 loop-holds : tie.Need-loop-holds Inv-loop μ-loop
-loop-holds c = (omega arith, (λ m h. absurd (omega (arith, h)), packed-none (lent c) (c .args .t5)))
+loop-holds c = (omega arith, (λ m h. absurd (omega (arith, h)), packed-none (lent (c .before)) (loose c)))
 
 is-made-requires : tie.Need-is-made-requires Inv-loop μ-loop
 is-made-requires c κs = search needs
@@ -70,30 +79,33 @@ loop-again c =
     let t = c .before in
     let l = t .before .before in
     let i = l .loop .inv in
-    let start = l .before in (
+    let begun = l .before in
+    let start = begun .before in (
       omega (arith, turn-room t),
       (
         one-more (start .args .made) (l .loop .k) (i .1 .0) (turn-made t),
-        subst (λ (point : TmeshControlPoint). PackedTo (l .loop .k + 1) (lent start) (start .args .t5) (set (l .loop .points) (l .loop .k) point)) (sym (c .lent-point .ensures))
-            (packed-more (l .loop .k) (lent start) (start .args .t5) (l .loop .points) (omega (arith, room start, turn-room t)) (i .1 .1)),
+        subst (λ (point : TmeshControlPoint). PackedTo (l .loop .k + 1) (lent start) (loose begun) (set (l .loop .points) (l .loop .k) point)) (sym (c .lent-point .ensures))
+            (packed-more (l .loop .k) (lent start) (loose begun) (l .loop .points) (omega (arith, room begun, turn-room t)) (i .1 .1)),
       ),
     )
 
 returns : tie.Need-returns Inv-loop μ-loop
 returns c =
     let l = c .before .before in
-    let start = l .before in
-    λ held h.
-    held-packed (lent start) (start .args .t5) (l .loop .points) _ (l .loop .k) (l .loop .inv .0) (room start) h (l .loop .inv .1 .0)
-    (λ m made. made-below (start .args .made) (l .loop .k) m (sym (c .before .is-made .ensures) ∙ c .if1 .left) made)
+    let begun = l .before in
+    let start = begun .before in
+    packed-all (lent start) (begun .loose-point .result) (l .loop .points) (start .args .made) (l .loop .k) (begun .loose-point .ensures) (l .loop .inv .0)
+    (l .loop .inv .1 .0)
+    (λ m h. made-below (start .args .made) (l .loop .k) m (sym (c .before .is-made .ensures) ∙ c .if1 .left) h)
     (l .loop .inv .1 .1)
 
-pub packed-spec : {M : Type 1} → statement M
-packed-spec =
+pub packed-points-spec : {M : Type 1} → statement M
+packed-points-spec =
     tie.close
     (tie.spec
     Inv-loop
     μ-loop
+    loose-point-requires
     loop-holds
     is-made-requires
     lent-point-requires

@@ -1,0 +1,24 @@
+-- `packed_map` meets its contract: the made points are packed over loose ones, and the positions row by row.
+use borrow.Author.Needs.{needs}
+use denote.Ref.{now}
+use Rattle.lent_points.specs.Lent.{lentPoints}
+use Rattle.lent_mesh.specs.LentMesh.{unkept}
+use Rattle.lent_mesh.specs.LentMeshLaws.{packed-mesh}
+use Rattle.lent_mesh.proofs.packed_map.Statement.{statement}
+use Rattle.lent_mesh.proofs.packed_map.Tie as tie
+
+packed-points-requires : tie.Need-packed-points-requires
+packed-points-requires c κs = search needs
+
+packed-positions-requires : tie.Need-packed-positions-requires
+packed-positions-requires c κs = search needs
+
+returns : tie.Need-returns
+unfolding unkept
+returns c =
+    let a = c .before .before .before .args in
+    let points = lentPoints (now (a .kinds)) (now (a .numbers)) (now (a .intervals)) (now (a .coordinates)) in
+    packed-mesh points (a .made) (now (a .positions)) (now (a .listed)) _ _ (c .before .before .packed-points .ensures) (c .before .packed-positions .ensures)
+
+pub packed-map-spec : {M : Type 1} → statement M
+packed-map-spec = tie.close (tie.spec packed-points-requires packed-positions-requires returns)

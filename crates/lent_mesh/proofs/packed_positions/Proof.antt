@@ -1,0 +1,68 @@
+-- `packed_positions` meets its contract: the positions below n stand in the array.
+use Prim.Native.Nat.{_≤_, _-_}
+use mathlib.Core.Path.{_≡_, ap}
+use native.Mathlib.Omega.{arith}
+use borrow.Author.Needs.{needs}
+use denote.Ref.{now}
+use lib.ListN.{length-replicate, set}
+use Rattle.t_mesh.specs.Tmesh.{origin}
+use Rattle.t_mesh.specs.declared.t_mesh.Position.{Position}
+use Rattle.lent_mesh.specs.LentMesh.{lentPosition}
+use Rattle.lent_mesh.specs.LentMeshLaws.{StoredTo, stored-none, stored-more, stored-all}
+use Rattle.lent_mesh.proofs.packed_positions.Statement.{statement}
+use Rattle.lent_mesh.proofs.packed_positions.Tie as tie
+
+abbrev Inv-loop : tie.InvT-loop
+Inv-loop positions places₀ n₀ places n = (n ≤ 128) × StoredTo (lentPosition positions) origin n places
+
+abbrev μ-loop : tie.MeasureT-loop
+μ-loop positions places₀ n₀ places n = 128 - n
+
+loop-holds : tie.Need-loop-holds Inv-loop μ-loop
+loop-holds c = (omega arith, stored-none (lentPosition (now (c .args .positions))) origin _ (length-replicate {A = Position} 128 origin))
+
+lent-position-requires : tie.Need-lent-position-requires Inv-loop μ-loop
+lent-position-requires c κs = search needs
+
+cast-places : tie.Need-cast-places Inv-loop μ-loop
+cast-places c = search needs
+
+mul-places : tie.Need-mul-places Inv-loop μ-loop
+mul-places c = search needs
+
+array-set-from-places : tie.Need-array-set-from-places Inv-loop μ-loop
+array-set-from-places c = search needs
+
+add-n : tie.Need-add-n Inv-loop μ-loop
+add-n c = search needs
+
+loop-less : tie.Need-loop-less Inv-loop μ-loop
+loop-less c = search needs
+
+loop-again : tie.Need-loop-again Inv-loop μ-loop
+loop-again c =
+    let l = c .before .before in
+    let positions = now (l .before .args .positions) in
+    (omega arith, stored-more (lentPosition positions) origin (l .loop .n) (l .loop .places) _ (omega arith) (ap (set (l .loop .places) (l .loop .n)) (c .lent-position .ensures)) (l .loop .inv .1))
+
+returns : tie.Need-returns Inv-loop μ-loop
+returns c =
+    let l = c .before in
+    let all : l .loop .n ≡ 128 = omega arith in
+    stored-all (lentPosition (now (l .before .args .positions))) origin (l .loop .n) (l .loop .places) all (l .loop .inv .1)
+
+pub packed-positions-spec : {M : Type 1} → statement M
+packed-positions-spec =
+    tie.close
+    (tie.spec
+    Inv-loop
+    μ-loop
+    loop-holds
+    lent-position-requires
+    cast-places
+    mul-places
+    array-set-from-places
+    add-n
+    loop-less
+    loop-again
+    returns)

@@ -1,0 +1,115 @@
+-- Laws of an insertion into a lent mesh: points that hold a mesh before it hold, after it, the mesh that it leaves. Refused, nothing else
+-- changes; else the new point's position and whether it is listed stand under its number.
+use Prim.Native.Nat.{ℕ, _+_, _<_}
+use mathlib.Core.Path.{_≡_, refl, sym, ap, _∙_, subst}
+use mathlib.Core.Bool.{Bool, true, false}
+use mathlib.Core.List.{List, []}
+use native.Mathlib.Omega.{arith}
+use borrow.Author.Tests.{eqb-true, eqb-false}
+use lib.Dec.{eqb}
+use lib.Ieee.{Float}
+use lib.ListN.{length, length-set, getD, set}
+use lib.Seq.{getD-set-same, getD-set-other}
+use Rattle.control_point.specs.declared.t_mesh_control_point.TmeshControlPoint.{TmeshControlPoint}
+use Rattle.control_point.specs.declared.t_mesh_direction.TmeshDirection.{TmeshDirection}
+use Rattle.insertion.specs.Insert.{insertPoint}
+use Rattle.insertion.specs.InsertLaws.{refused-same}
+use Rattle.insertion.specs.Lent.{Inserts}
+use Rattle.insertion.specs.declared.insertion.InsertAnswer.{InsertAnswer}
+use Rattle.insertion.specs.declared.insertion.InsertAnswer.the-variants.{Done, Torn, Refused}
+use Rattle.insertion.specs.declared.insertion.Inserted.{Inserted}
+use Rattle.lent_points.specs.Lent.{Points, Held}
+use Rattle.lent_points.specs.LentLaws.{true-false}
+use Rattle.t_mesh.specs.Insertion.{isDone, isRefused, insertIntoMesh}
+use Rattle.t_mesh.specs.InsertionLaws.{placed-made, mesh-refused, mesh-placed}
+use Rattle.t_mesh.specs.Tmesh.{meshStore, listedIn, origin}
+use Rattle.t_mesh.specs.declared.add.InsertedMesh.{InsertedMesh}
+use Rattle.t_mesh.specs.declared.t_mesh.Mesh.{Mesh}
+use Rattle.t_mesh.specs.declared.t_mesh.Position.{Position}
+use Rattle.lent_mesh.specs.LentMesh.{rowOf, rowPosition, lentPosition, valuesFrom, meshOver}
+use Rattle.lent_mesh.specs.LentMeshLaws.{values-length, values-at, values-are, loosePoints, mesh-held, held-same}
+
+-- ---- a row stored anew is its position stored anew
+module _ (positions : List (List Float)) (room : length positions ≡ 128) (n : ℕ) (h : n < 128) (position : Position) where
+  abbrev places : List Position
+  places = valuesFrom (lentPosition positions) 128 0
+
+  abbrev rows : List (List Float)
+  rows = set positions n (rowOf position)
+
+  position-stored : set places n position ≡ valuesFrom (lentPosition rows) 128 0
+  position-stored =
+      values-are (lentPosition rows) origin 128 (set places n position) (length-set places n position ∙ values-length (lentPosition positions) 128 0)
+      (λ m l. by-test m (eqb m n) refl l)
+    where
+      by-test : (m : ℕ) (same : Bool) → eqb m n ≡ same → m < 128 → getD (set places n position) m origin ≡ lentPosition rows m
+      by-test m true x l =
+          ap (λ (k : ℕ). getD (set places n position) k origin) (eqb-true m n x)
+          ∙ getD-set-same places n position origin (omega (arith, h, values-length (lentPosition positions) 128 0))
+          ∙ sym (ap rowPosition (getD-set-same positions n (rowOf position) [] (omega (arith, h, room))))
+          ∙ ap (lentPosition rows) (sym (eqb-true m n x))
+      by-test m false x l =
+          getD-set-other places n m position origin (eqb-false m n x)
+          ∙ values-at (lentPosition positions) origin 128 0 m l
+          ∙ ap (lentPosition positions) (omega arith)
+          ∙ sym (ap rowPosition (getD-set-other positions n m (rowOf position) [] (eqb-false m n x)))
+
+-- ---- an insertion
+-- what an insertion into points is to the mesh that they held: the answer is the mesh's; refused, they hold the mesh that it leaves; else there
+-- was room for the new point, and with its row and whether it is listed they hold that mesh
+pub record InsertsIntoMesh (e : Float) (points : Points) (made : ℕ) (positions : List (List Float)) (listed : List Bool) (con : ℕ) (d : TmeshDirection) (ratio : Float) (position : Position) (answer : InsertAnswer) (after : Points) : Type 0 where
+  pub answered : answer ≡ insertIntoMesh e (meshOver points made positions listed) con d ratio position .answer
+  pub refused : isRefused answer ≡ true → meshOver after made positions listed ≡ insertIntoMesh e (meshOver points made positions listed) con d ratio position .mesh
+  pub room : isRefused answer ≡ false → made < 128
+  pub placed : isRefused answer ≡ false → length positions ≡ 128 → (row : List Float) → row ≡ rowOf position → (done : Bool) → done ≡ isDone answer
+      → meshOver after (made + 1) (set positions made row) (set listed made done) ≡ insertIntoMesh e (meshOver points made positions listed) con d ratio position .mesh
+
+module _ (e : Float) (points : Points) (made : ℕ) (positions : List (List Float)) (listed : List Bool) (con : ℕ) (d : TmeshDirection) (ratio : Float) (position : Position) (answer : InsertAnswer) (after : Points)
+    (inserts : Inserts e points made (listedIn listed con) con d ratio answer after) where
+  abbrev mesh : Mesh
+  mesh = meshOver points made positions listed
+
+  abbrev inserted : Inserted
+  inserted = insertPoint e (meshStore mesh) (listedIn listed con) con d ratio
+
+  held-after : (answer ≡ inserted .answer) × Held after loosePoints (inserted .store)
+  held-after = inserts loosePoints (meshStore mesh) (mesh-held points made positions listed) refl
+
+  store-kept : (a : InsertAnswer) → a ≡ inserted .answer → isRefused a ≡ true → inserted .store ≡ meshStore mesh
+  store-kept (Refused refusal) is h = refused-same e (meshStore mesh) (listedIn listed con) con d ratio refusal (sym is)
+  store-kept (Done opened inferred) is h = absurd (true-false (sym h))
+  store-kept (Torn opened inferred) is h = absurd (true-false (sym h))
+
+  mesh-kept : isRefused answer ≡ true → meshOver after made positions listed ≡ insertIntoMesh e mesh con d ratio position .mesh
+  unfolding insertIntoMesh
+  mesh-kept refused =
+      ap (λ (list : List TmeshControlPoint). record { points = list; made = made; positions = mesh .positions; listed = listed })
+      (held-same after loosePoints (meshStore (meshOver after made positions listed)) (meshStore mesh) refl
+      (mesh-held after made positions listed)
+      (subst (Held after loosePoints) (store-kept answer (held-after .0) refused) (held-after .1)))
+      ∙ ap (λ (x : InsertedMesh). x .mesh) (mesh-refused mesh position answer inserted (held-after .0) refused)
+
+  one-more : isRefused answer ≡ false → (made < 128) × (inserted .store .made ≡ made + 1)
+  one-more stands = placed-made e (meshStore mesh) (mesh-held points made positions listed .room) (listedIn listed con) con d ratio answer (held-after .0) stands
+
+  abbrev more : Mesh
+  more = meshOver after (made + 1) (set positions made (rowOf position)) (set listed made (isDone answer))
+
+  mesh-more : isRefused answer ≡ false → length positions ≡ 128 → (row : List Float) → row ≡ rowOf position → (done : Bool) → done ≡ isDone answer
+      → meshOver after (made + 1) (set positions made row) (set listed made done) ≡ insertIntoMesh e mesh con d ratio position .mesh
+  unfolding insertIntoMesh
+  mesh-more stands full row at-row done listing =
+      ap (λ (r : List Float). meshOver after (made + 1) (set positions made r) (set listed made done)) at-row
+      ∙ ap (λ (b : Bool). meshOver after (made + 1) (set positions made (rowOf position)) (set listed made b)) listing
+      ∙ ap (λ (places : List Position). record { points = more .points; made = made + 1; positions = places; listed = more .listed })
+      (sym (position-stored positions full made (one-more stands .0) position))
+      ∙ ap (λ (x : InsertedMesh). x .mesh)
+      (mesh-placed mesh position (more .points) (made + 1) answer (isDone answer) inserted (held-after .0) stands
+      (held-same after loosePoints (meshStore more) (inserted .store) (sym (one-more stands .1))
+      (mesh-held after (made + 1) (set positions made (rowOf position)) (more .listed))
+      (held-after .1))
+      (sym (one-more stands .1)) refl)
+
+  pub lent-inserts : InsertsIntoMesh e points made positions listed con d ratio position answer after
+  unfolding insertIntoMesh
+  lent-inserts = record { answered = held-after .0; refused = mesh-kept; room = λ stands. one-more stands .0; placed = mesh-more }

@@ -1,0 +1,3 @@
+pub mod LentMesh
+pub mod LentMeshLaws
+pub mod InsertionLaws
