@@ -1,7 +1,7 @@
 // The surface at a place.
 ghost use mathlib.Core.Path.{_≡_};
 ghost use Rattle.control_point.specs.Small.{millionth};
-ghost use Rattle.surface.specs.Evaluation.{evaluationTold, shareBy, answerBy, subsOf, subsTable, weighty, setPoint, setPointTable};
+ghost use Rattle.surface.specs.Evaluation.{evaluationTold, shareBy, answerBy, subsOf, subsTable, weighty, setPoint, asSetPoint, setPointTable};
 use basis::basis_function;
 use control_point::refusal::Outcome;
 use control_point::refusal::Refusal;
@@ -14,7 +14,8 @@ use surface::evaluation::Share;
 use t_mesh::t_mesh::Position;
 use t_mesh::t_mesh::Tmesh;
 
-fn share_of(knots: PointKnots, position: Position, s: f64, t: f64) -> Share
+// What a point adds at (s, t), by its knots and its position.
+pub fn share_of(knots: PointKnots, position: Position, s: f64, t: f64) -> Share
     ensures { λ r. ⌜ r ≡ shareBy knots position s t ⌝ }
 {
     let across = knots.s;
@@ -29,7 +30,7 @@ fn share_of(knots: PointKnots, position: Position, s: f64, t: f64) -> Share
 }
 
 // The value, where the knots were built.
-fn answer_by(outcome: Outcome, value: Evaluation) -> EvaluationAnswer
+pub fn answer_by(outcome: Outcome, value: Evaluation) -> EvaluationAnswer
     ensures { λ r. ⌜ r ≡ answerBy outcome value ⌝ }
 {
     match outcome {
@@ -92,5 +93,15 @@ pub fn set_point(value: Evaluation) -> EvaluationAnswer
         EvaluationAnswer::Is(value)
     } else {
         EvaluationAnswer::Refused(Refusal::NoWeight)
+    }
+}
+
+// An evaluation's answer as a set-point.
+pub fn as_set_point(answer: EvaluationAnswer) -> EvaluationAnswer
+    ensures { λ r. ⌜ r ≡ asSetPoint answer ⌝ }
+{
+    match answer {
+        EvaluationAnswer::Is(value) => set_point(value),
+        EvaluationAnswer::Refused(refusal) => EvaluationAnswer::Refused(refusal),
     }
 }

@@ -16,11 +16,11 @@ use big_endian::after;
 use big_endian::byte_at;
 use big_endian::float_at;
 use big_endian::pair_at;
-use control_point::refusal::Outcome as Settled;
 use control_point::sides::wide;
 use control_point::small::closeness;
 use control_point::t_mesh_direction::TmeshDirection;
-use evaluation::evaluation::set_point;
+use evaluation::evaluation::answer_by;
+use evaluation::evaluation::as_set_point;
 use evaluation::evaluation::subs;
 use knot_vectors::knots::generate_knot_vectors;
 use lent_surface::lend;
@@ -37,8 +37,6 @@ use replay::outcome_of;
 use store::store::Store;
 use stored_calls::call::replay_call;
 use stored_calls::points::both;
-use surface::evaluation::Evaluation;
-use surface::evaluation::EvaluationAnswer;
 use t_mesh::t_mesh::Position;
 use t_mesh::t_mesh::Tmesh;
 use t_mesh::t_mesh::store_of;
@@ -117,31 +115,15 @@ fn replay_evaluation(call: &[u8], map: Tmesh) -> MapReplayed {
     }
 }
 
-// What an evaluation answers as a set-point.
-fn set_point_of(answer: EvaluationAnswer) -> EvaluationAnswer {
-    match answer {
-        EvaluationAnswer::Is(value) => set_point(value),
-        EvaluationAnswer::Refused(refusal) => EvaluationAnswer::Refused(refusal),
-    }
-}
-
 fn replay_set_point(call: &[u8], map: Tmesh) -> MapReplayed {
     let evaluated = subs(map, float_at(call, 1), float_at(call, 9));
     let answer = evaluated.answer;
-    let judged = judge_evaluation(set_point_of(answer), call);
+    let judged = judge_evaluation(as_set_point(answer), call);
     let next = evaluated.map;
     MapReplayed {
         map: next,
         right: judged.right,
         bytes: judged.bytes,
-    }
-}
-
-// The value of a map that was lent, or why it was not.
-fn lent_answer(outcome: Settled, value: Evaluation) -> EvaluationAnswer {
-    match outcome {
-        Settled::Done => EvaluationAnswer::Is(value),
-        Settled::Refused(refusal) => EvaluationAnswer::Refused(refusal),
     }
 }
 
@@ -157,7 +139,7 @@ fn replay_lent(call: &[u8], map: Tmesh) -> MapReplayed {
     let s = float_at(call, 1);
     let value = lent_value(&across, &upwards, &positions, &listed, s, float_at(call, 9));
     let outcome = lent.outcome;
-    let judged = judge_evaluation(lent_answer(outcome, value), call);
+    let judged = judge_evaluation(answer_by(outcome, value), call);
     let next = lent.map;
     MapReplayed {
         map: next,

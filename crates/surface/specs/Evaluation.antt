@@ -131,3 +131,8 @@ setPoint value = cond (weighty value) (Is value) (Refused NoWeight)
 
 abbrev pub setPointTable : Evaluation → Told
 setPointTable value = unless 15 (weighty value) (valueTold value)
+
+-- an evaluation's answer as a set-point
+abbrev pub asSetPoint : EvaluationAnswer → EvaluationAnswer
+asSetPoint (Is value) = setPoint value
+asSetPoint (Refused refusal) = Refused refusal
