@@ -6,10 +6,10 @@ use Rattle.t_mesh.specs.declared.t_mesh.Tmesh.{Tmesh}
 use Rattle.calls.specs.Calls.{Call, insertion}
 use Rattle.soundness.specs.MapCalls.{mapAfterAll, entries}
 use Rattle.map_file.specs.Run.{edited, afterEdits}
-use Rattle.map_format.specs.declared.format.Edit.{Edit}
+use Rattle.map_format.specs.Format.{Edit}
 
 -- an edit as a call
-abbrev pub callOf : Edit → Call
+abbrev callOf : Edit → Call
 callOf edit = insertion (edit .point) (edit .direction) (edit .ratio) (edit .position)
 
 unfoldable pub callsOf : List Edit → List Call

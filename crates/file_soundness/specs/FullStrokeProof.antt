@@ -27,7 +27,7 @@ use Rattle.control_point.specs.declared.refusal.Refusal.the-variants.{Ratio, Fo
 use Rattle.t_mesh.specs.Tmesh.{Axis, X, Y, Z, coordinate}
 use Rattle.t_mesh.specs.declared.t_mesh.Position.{Position}
 use Rattle.t_mesh.specs.declared.t_mesh.Tmesh.{Tmesh}
-use Rattle.surface.specs.Evaluation.{onAxis, evaluationNumber, valueOf, answerBy, withKnots, weighty, setPoint, subsOf, noPosition}
+use Rattle.surface.specs.Evaluation.{onAxis, evaluationNumber, valueOf, answerBy, withKnots, weighty, setPoint, subsOf, noPosition, asSetPoint}
 use Rattle.surface.specs.declared.evaluation.Evaluation.{Evaluation}
 use Rattle.surface.specs.declared.evaluation.EvaluationAnswer.{EvaluationAnswer}
 use Rattle.surface.specs.declared.evaluation.EvaluationAnswer.the-variants.{Is, Refused}
@@ -36,9 +36,8 @@ use Rattle.calls.specs.FullStroke.{InUnit, Each, DoneInUnit as CallDoneInUnit, 
 use Rattle.calls.specs.FullStrokeProof.{never-past-full-stroke}
 use Rattle.mirror.specs.BoolLaws.{cond-case}
 use Rattle.soundness.specs.MapCalls.{numberOf}
-use Rattle.map_format.specs.Format.{versionAt, theVersion, borderAt, editsAt, editCount, editsFrom, lengthRight, headingsRight, checkedFile}
-use Rattle.map_file.specs.Run.{cornerOf, freshMap, edited, afterEdits, editNumbers, fileMap, asSetPoint, checkedSetPoint, fileSetPoint}
-use Rattle.map_format.specs.declared.format.Edit.{Edit}
+use Rattle.map_format.specs.Format.{versionAt, theVersion, borderAt, editsAt, editCount, Edit, editsFrom, lengthRight, headingsRight, checkedFile}
+use Rattle.map_file.specs.Run.{cornerOf, freshMap, edited, afterEdits, editNumbers, fileMap, checkedSetPoint, fileSetPoint}
 use Rattle.map_format.specs.declared.format.FileCheck.{FileCheck}
 use Rattle.map_format.specs.declared.format.FileCheck.the-variants.{Valid, Refused as NotValid}
 use Rattle.value_bytes.specs.Value.{bitsOf, bytesOfValue}

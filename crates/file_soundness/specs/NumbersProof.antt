@@ -11,7 +11,7 @@ use Rattle.control_point.specs.Refusal.{refusalNumber}
 use Rattle.control_point.specs.Small.{millionth}
 use Rattle.control_point.specs.declared.refusal.Refusal.{Refusal}
 use Rattle.mirror.specs.BoolLaws.{cond-case}
-use Rattle.surface.specs.Evaluation.{evaluationNumber, weighty, setPoint, subsOf}
+use Rattle.surface.specs.Evaluation.{evaluationNumber, weighty, setPoint, subsOf, asSetPoint}
 use Rattle.surface.specs.declared.evaluation.Evaluation.{Evaluation}
 use Rattle.surface.specs.declared.evaluation.EvaluationAnswer.{EvaluationAnswer}
 use Rattle.surface.specs.declared.evaluation.EvaluationAnswer.the-variants.{Is, Refused as NoValue}
@@ -20,7 +20,7 @@ use Rattle.soundness.specs.MapCalls.{entries}
 use Rattle.soundness.specs.Theorems.{OneOf}
 use Rattle.soundness.specs.EveryMapProof.{evaluation-refusals}
 use Rattle.map_format.specs.Format.{versionAt, theVersion, editsAt, editCount, editsFrom, lengthRight, headingsRight, checkedFile}
-use Rattle.map_file.specs.Run.{cornerOf, freshMap, fileMap, asSetPoint, checkedSetPoint, fileSetPoint}
+use Rattle.map_file.specs.Run.{cornerOf, freshMap, fileMap, checkedSetPoint, fileSetPoint}
 use Rattle.map_format.specs.declared.format.FileCheck.{FileCheck}
 use Rattle.map_format.specs.declared.format.FileCheck.the-variants.{Valid, Refused}
 use Rattle.value_bytes.specs.Value.{valueBytes}

@@ -15,9 +15,8 @@ use Rattle.t_mesh.specs.Tmesh.{Axis, X, Y, Z, coordinate, storeOf}
 use Rattle.census.specs.Census.{countsOf}
 use Rattle.calls.specs.FullStroke.{InUnit}
 use Rattle.soundness.specs.Theorems.{OneOf}
-use Rattle.map_format.specs.Format.{borderAt, editsAt, editCount, editsFrom, checkedFile}
+use Rattle.map_format.specs.Format.{borderAt, editsAt, editCount, Edit, editsFrom, checkedFile}
 use Rattle.map_file.specs.Run.{cornerOf, fileMap, fileNumbers}
-use Rattle.map_format.specs.declared.format.Edit.{Edit}
 use Rattle.map_format.specs.declared.format.FileCheck.the-variants.{Valid, Refused}
 use Rattle.report_text.specs.Text.{fileWord, newline, refusedText}
 use Rattle.report_lines.specs.Lines.{editLines, countsLine, openLines, midLine}

@@ -4,7 +4,7 @@ ghost use lib.ListN.{length};
 ghost use Rattle.gatemap_host.specs.SetPoint.{hostAnswer, hostNumber, hostBuffer, hostTable};
 use control_point::refusal::Refusal;
 use float64::from_bits;
-use map_file::run::file_set_point;
+use map_set_point::file_set_point;
 use surface::evaluation::EvaluationAnswer;
 use value_bytes::write_value;
 

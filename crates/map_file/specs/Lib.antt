@@ -1,5 +1,4 @@
 pub mod Run
 pub mod Table
 pub mod RunLaws
-pub mod LentRunLaws
 pub mod TableLaws

@@ -2,20 +2,21 @@
 -- e is the closeness. What is answered at (s, t) is the set-point of an evaluation of the map that the run leaves.
 use Prim.Native.Nat.{ℕ, _+_, _*_}
 use mathlib.Core.List.{List, [], _∷_}
+use mathlib.Core.Path.{_≡_}
 use lib.Ieee.{Float}
 use Rattle.big_endian.specs.BigEndian.{floatAt}
-use Rattle.control_point.specs.declared.refusal.Refusal.{Refusal}
 use Rattle.insertion.specs.Insert.{answerNumber}
 use Rattle.t_mesh.specs.Tmesh.{newTmesh}
-use Rattle.t_mesh.specs.Insertion.{addControlPoint}
+use Rattle.t_mesh.specs.Insertion.{insertIntoMesh, addControlPoint}
+use Rattle.t_mesh.specs.declared.t_mesh.Mesh.{Mesh}
 use Rattle.t_mesh.specs.declared.t_mesh.Position.{Position}
 use Rattle.t_mesh.specs.declared.t_mesh.Tmesh.{Tmesh}
 use Rattle.t_mesh.specs.declared.add.Added.{Added}
-use Rattle.surface.specs.Evaluation.{subsOf, setPoint}
+use Rattle.t_mesh.specs.declared.add.InsertedMesh.{InsertedMesh}
+use Rattle.surface.specs.Evaluation.{subsOf, asSetPoint}
 use Rattle.surface.specs.declared.evaluation.EvaluationAnswer.{EvaluationAnswer}
-use Rattle.surface.specs.declared.evaluation.EvaluationAnswer.the-variants.{Is, Refused as NotEvaluated}
-use Rattle.map_format.specs.Format.{borderAt, cornersAt, positionBytes, editsAt, positionAt, editsFrom, checkedFile}
-use Rattle.map_format.specs.declared.format.Edit.{Edit}
+use Rattle.surface.specs.declared.evaluation.EvaluationAnswer.the-variants.{Refused as NotEvaluated}
+use Rattle.map_format.specs.Format.{borderAt, cornersAt, positionBytes, editsAt, positionAt, Edit, editsFrom, checkedFile}
 use Rattle.map_format.specs.declared.format.FileCheck.{FileCheck}
 use Rattle.map_format.specs.declared.format.FileCheck.the-variants.{Valid, Refused}
 
@@ -30,6 +31,10 @@ freshMap bytes = newTmesh (floatAt bytes borderAt) (cornerOf bytes 0) (cornerOf 
 abbrev pub edited : Float → Tmesh → Edit → Added
 edited e map edit = addControlPoint e map (edit .point) (edit .direction) (edit .ratio) (edit .position)
 
+-- an edit, as far as it is the mesh's
+abbrev pub meshEdited : Float → Mesh → Edit → InsertedMesh
+meshEdited e mesh edit = insertIntoMesh e mesh (edit .point) (edit .direction) (edit .ratio) (edit .position)
+
 -- the map after all
 unfoldable pub afterEdits : Float → Tmesh → List Edit → Tmesh
 afterEdits e map [] = map
@@ -40,6 +45,10 @@ unfoldable pub editNumbers : Float → Tmesh → List Edit → List ℕ
 editNumbers e map [] = []
 editNumbers e map (edit ∷ rest) = answerNumber (edited e map edit .answer) ∷ editNumbers e (edited e map edit .map) rest
 
+-- two places of a file from which the same edits are read
+abbrev pub SameEdits : List ℕ → ℕ → ℕ → Type 0
+SameEdits bytes at other = (count : ℕ) → editsFrom count bytes at ≡ editsFrom count bytes other
+
 -- ---- a file with so many edits
 abbrev pub fileMap : Float → List ℕ → ℕ → Tmesh
 fileMap e bytes count = afterEdits e (freshMap bytes) (editsFrom count bytes editsAt)
@@ -48,10 +57,6 @@ abbrev pub fileNumbers : Float → List ℕ → ℕ → List ℕ
 fileNumbers e bytes count = editNumbers e (freshMap bytes) (editsFrom count bytes editsAt)
 
 -- ---- the set-point at (s, t)
-abbrev pub asSetPoint : EvaluationAnswer → EvaluationAnswer
-asSetPoint (Is value) = setPoint value
-asSetPoint (NotEvaluated refusal) = NotEvaluated refusal
-
 -- of a map
 abbrev pub setPointAt : Float → Tmesh → Float → Float → EvaluationAnswer
 setPointAt e map s t = asSetPoint (subsOf e map s t .answer)

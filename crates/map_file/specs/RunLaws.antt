@@ -8,66 +8,63 @@ use native.Mathlib.Numerals.{unary-clauses}
 use native.Mathlib.Omega.{arith}
 use lib.Ieee.{Float}
 use lib.ListN.{length, set, drop-of-length-le}
+use Rattle.big_endian.specs.BigEndian.{floatAt}
 use Rattle.big_endian.specs.Written.{written}
 use Rattle.control_point.specs.declared.refusal.Refusal.{Refusal}
-use Rattle.insertion.specs.Insert.{answerNumber, insertPoint}
+use Rattle.insertion.specs.Insert.{answerNumber}
 use Rattle.insertion.specs.declared.insertion.InsertAnswer.{InsertAnswer}
 use Rattle.insertion.specs.declared.insertion.InsertAnswer.the-variants.{Done, Torn, Refused as NotInserted}
-use Rattle.t_mesh.specs.Tmesh.{newTmesh, isListed, storeOf}
+use Rattle.lent_mesh.specs.LentMesh.{unkept}
 use Rattle.t_mesh.specs.Insertion.{insertIntoMesh, keptAfter, addControlPoint}
+use Rattle.t_mesh.specs.Tmesh.{newTmesh}
 use Rattle.t_mesh.specs.declared.t_mesh.Mesh.{Mesh}
+use Rattle.t_mesh.specs.declared.t_mesh.Position.{Position}
 use Rattle.t_mesh.specs.declared.t_mesh.Tmesh.{Tmesh}
-use Rattle.t_mesh.specs.declared.add.InsertedMesh.{InsertedMesh}
 use Rattle.surface.specs.declared.evaluation.EvaluationAnswer.the-variants.{Refused as NotEvaluated}
-use Rattle.map_format.specs.Format.{editsAt, editBytes, editAt, editsFrom, checkedFile}
+use Rattle.map_format.specs.Format.{borderAt, editsAt, editBytes, Edit, editAt, editsFrom, checkedFile}
 use Rattle.map_format.specs.FormatLaws.{edit-after}
-use Rattle.map_file.specs.Run.{freshMap, edited, afterEdits, editNumbers, fileMap, fileNumbers, setPointAt, checkedSetPoint, fileSetPoint}
-use Rattle.map_format.specs.declared.format.Edit.{Edit}
+use Rattle.map_file.specs.Run.{cornerOf, freshMap, SameEdits, edited, meshEdited, afterEdits, editNumbers, fileMap, fileNumbers, setPointAt, checkedSetPoint, fileSetPoint}
 use Rattle.map_format.specs.declared.format.FileCheck.the-variants.{Valid, Refused}
 
--- ---- an edit of a mesh
-abbrev pub meshEdited : Float → Mesh → Edit → InsertedMesh
-meshEdited e mesh edit = insertIntoMesh e mesh (edit .point) (edit .direction) (edit .ratio) (edit .position)
+-- ---- the map before the edits, by the weight and the corners that were read
+pub fresh-read : (bytes : List ℕ) (map : Tmesh) (weight : Float) (bottomLeft bottomRight topRight topLeft : Position) → map ≡ newTmesh weight bottomLeft bottomRight topRight topLeft
+    → weight ≡ floatAt bytes borderAt → bottomLeft ≡ cornerOf bytes 0 → bottomRight ≡ cornerOf bytes 1 → topRight ≡ cornerOf bytes 2 → topLeft ≡ cornerOf bytes 3
+    → map ≡ freshMap bytes
+fresh-read bytes map weight bottomLeft bottomRight topRight topLeft is w first second third fourth = rw (is, w, first, second, third, fourth)
 
 -- ---- an edit of a map that keeps no knots
--- a map with another mesh
-abbrev pub withMesh : Tmesh → Mesh → Tmesh
-withMesh map mesh = record { mesh = mesh; kept = map .kept; knots = map .knots }
+none-after : (answer : InsertAnswer) → keptAfter false answer ≡ false
+none-after (Done opened inferred) = refl
+none-after (Torn opened inferred) = refl
+none-after (NotInserted refusal) = refl
 
-none-after : (kept : Bool) (answer : InsertAnswer) → kept ≡ false → keptAfter kept answer ≡ kept
-none-after kept (Done opened inferred) none = sym none
-none-after kept (Torn opened inferred) none = refl
-none-after kept (NotInserted refusal) none = refl
-
-module _ (e : Float) (map : Tmesh) (none : map .kept ≡ false) (edit : Edit) (done : InsertedMesh) (d : done ≡ meshEdited e (map .mesh) edit) where
-  edited-map : edited e map edit .map ≡ withMesh map (done .mesh)
-  unfolding addControlPoint insertIntoMesh
+module _ (e : Float) (mesh : Mesh) (edit : Edit) where
+  edited-map : edited e (unkept mesh) edit .map ≡ unkept (meshEdited e mesh edit .mesh)
+  unfolding addControlPoint insertIntoMesh unkept
   edited-map =
-      ap (λ (kept : Bool). record { mesh = meshEdited e (map .mesh) edit .mesh; kept = kept; knots = map .knots })
-      (none-after (map .kept) (insertPoint e (storeOf map) (isListed map (edit .point)) (edit .point) (edit .direction) (edit .ratio) .answer) none)
-      ∙ ap (λ (x : InsertedMesh). withMesh map (x .mesh)) (sym d)
+      ap (λ (kept : Bool). record { mesh = meshEdited e mesh edit .mesh; kept = kept; knots = unkept mesh .knots })
+      (none-after (meshEdited e mesh edit .answer))
 
-  edited-number : answerNumber (edited e map edit .answer) ≡ answerNumber (done .answer)
-  unfolding addControlPoint insertIntoMesh
-  edited-number = ap (λ (x : InsertedMesh). answerNumber (x .answer)) (sym d)
+  edited-answer : edited e (unkept mesh) edit .answer ≡ meshEdited e mesh edit .answer
+  unfolding addControlPoint insertIntoMesh unkept
+  edited-answer = refl
 
-  -- the first edit of several
-  module _ (rest : List Edit) where
-    map-after-first : afterEdits e map (edit ∷ rest) ≡ afterEdits e (withMesh map (done .mesh)) rest
+  -- the first edit of several, by the answer and the mesh that it gave
+  module _ (answer : InsertAnswer) (answered : answer ≡ meshEdited e mesh edit .answer) (after : Mesh) (left : after ≡ meshEdited e mesh edit .mesh) (rest : List Edit) where
+    map-after : edited e (unkept mesh) edit .map ≡ unkept after
+    map-after = edited-map ∙ ap unkept (sym left)
+
+    map-after-first : afterEdits e (unkept mesh) (edit ∷ rest) ≡ afterEdits e (unkept after) rest
     unfolding afterEdits
-    map-after-first = ap (λ (after : Tmesh). afterEdits e after rest) edited-map
+    map-after-first = ap (λ (map : Tmesh). afterEdits e map rest) map-after
 
-    numbers-after-first : editNumbers e map (edit ∷ rest) ≡ answerNumber (done .answer) ∷ editNumbers e (withMesh map (done .mesh)) rest
+    numbers-after-first : editNumbers e (unkept mesh) (edit ∷ rest) ≡ answerNumber answer ∷ editNumbers e (unkept after) rest
     unfolding editNumbers
     numbers-after-first =
-        ap (λ (number : ℕ). number ∷ editNumbers e (edited e map edit .map) rest) edited-number
-        ∙ ap (λ (after : Tmesh). answerNumber (done .answer) ∷ editNumbers e after rest) edited-map
+        ap (λ (a : InsertAnswer). answerNumber a ∷ editNumbers e (edited e (unkept mesh) edit .map) rest) (edited-answer ∙ sym answered)
+        ∙ ap (λ (map : Tmesh). answerNumber answer ∷ editNumbers e map rest) map-after
 
 -- ---- past the end of a file
--- two places from which the same edits are read
-abbrev pub SameEdits : List ℕ → ℕ → ℕ → Type 0
-SameEdits bytes at other = (count : ℕ) → editsFrom count bytes at ≡ editsFrom count bytes other
-
 module _ (bytes : List ℕ) where
   edit-past : (at : ℕ) → length bytes ≤ at → editAt bytes at ≡ editAt [] 0
   edit-past at past =
@@ -86,51 +83,51 @@ module _ (bytes : List ℕ) where
 -- ---- what is left of a run
 -- after n edits, with the next one at a place, the map and the notes with what is left give the whole
 pub record Running (e : Float) (bytes : List ℕ) (count : ℕ) (notes₀ : List ℕ) (map : Tmesh) (notes : List ℕ) (at n : ℕ) : Type 0 where
-  pub none-kept : map .kept ≡ false
   pub gives-map : afterEdits e map (editsFrom (count - n) bytes at) ≡ fileMap e bytes count
   pub gives-notes : written notes n (editNumbers e map (editsFrom (count - n) bytes at)) ≡ written notes₀ 0 (fileNumbers e bytes count)
 
 module _ (e : Float) (bytes : List ℕ) (count : ℕ) (notes₀ : List ℕ) where
   pub running-first : (map : Tmesh) → map ≡ freshMap bytes → Running e bytes count notes₀ map notes₀ editsAt 0
-  unfolding newTmesh
-  running-first map fresh = rw fresh (record { none-kept = refl; gives-map = simp unary-clauses; gives-notes = simp unary-clauses })
+  running-first map fresh = rw fresh (record { gives-map = simp unary-clauses; gives-notes = simp unary-clauses })
 
-  module _ (map : Tmesh) (notes : List ℕ) (at n : ℕ) (running : Running e bytes count notes₀ map notes at n) where
-    none-left : n ≡ count → editsFrom (count - n) bytes at ≡ []
+  -- at the end
+  module _ (map : Tmesh) (notes : List ℕ) (at n : ℕ) (running : Running e bytes count notes₀ map notes at n) (all : n ≡ count) where
+    none-left : editsFrom (count - n) bytes at ≡ []
     unfolding editsFrom
-    none-left all = let z : count - n ≡ 0 = omega arith in simp z
+    none-left = let z : count - n ≡ 0 = omega (arith, all) in simp z
 
-    pub running-map : n ≡ count → map ≡ fileMap e bytes count
+    pub running-map : map ≡ fileMap e bytes count
     unfolding afterEdits
-    running-map all = sym (ap (afterEdits e map) (none-left all)) ∙ running .gives-map
+    running-map = sym (ap (afterEdits e map) none-left) ∙ running .gives-map
 
-    pub running-notes : n ≡ count → notes ≡ written notes₀ 0 (fileNumbers e bytes count)
+    pub running-notes : notes ≡ written notes₀ 0 (fileNumbers e bytes count)
     unfolding editNumbers written
-    running-notes all = sym (ap (λ (edits : List Edit). written notes n (editNumbers e map edits)) (none-left all)) ∙ running .gives-notes
+    running-notes = sym (ap (λ (edits : List Edit). written notes n (editNumbers e map edits)) none-left) ∙ running .gives-notes
 
-    -- one edit more
-    module _ (some : n < count) (done : InsertedMesh) (d : done ≡ meshEdited e (map .mesh) (editAt bytes at)) (next : ℕ) (same : SameEdits bytes next (at + editBytes)) where
-      one-left : editsFrom (count - n) bytes at ≡ editAt bytes at ∷ editsFrom (count - (n + 1)) bytes next
-      unfolding editsFrom
-      one-left =
-          let z : count - n ≡ suc (count - (n + 1)) = omega arith in
-          simp z (ap (λ (rest : List Edit). editAt bytes at ∷ rest) (sym (same (count - (n + 1)))))
+  -- one edit more
+  module _ (mesh : Mesh) (notes : List ℕ) (at n : ℕ) (running : Running e bytes count notes₀ (unkept mesh) notes at n) (some : n < count) (next : ℕ) (same : SameEdits bytes next (at + editBytes)) where
+    one-left : editsFrom (count - n) bytes at ≡ editAt bytes at ∷ editsFrom (count - (n + 1)) bytes next
+    unfolding editsFrom
+    one-left =
+        let z : count - n ≡ suc (count - (n + 1)) = omega (arith, some) in
+        simp z (ap (λ (rest : List Edit). editAt bytes at ∷ rest) (sym (same (count - (n + 1)))))
 
-      pub running-next : (notes′ : List ℕ) → notes′ ≡ set notes n (answerNumber (done .answer)) → Running e bytes count notes₀ (withMesh map (done .mesh)) notes′ next (n + 1)
-      unfolding written
-      running-next notes′ noted =
-          let rest = editsFrom (count - (n + 1)) bytes next in
-          record {
-            none-kept = running .none-kept;
-            gives-map =
-                sym (ap (afterEdits e map) one-left ∙ map-after-first e map (running .none-kept) (editAt bytes at) done d rest) ∙ running .gives-map;
-            gives-notes =
-                rw noted
-                (sym
-                (ap (written notes n)
-                (ap (editNumbers e map) one-left ∙ numbers-after-first e map (running .none-kept) (editAt bytes at) done d rest))
-                ∙ running .gives-notes);
-          }
+    pub running-next : (answer : InsertAnswer) → answer ≡ meshEdited e mesh (editAt bytes at) .answer → (after : Mesh) → after ≡ meshEdited e mesh (editAt bytes at) .mesh
+        → (notes′ : List ℕ) → notes′ ≡ set notes n (answerNumber answer) → Running e bytes count notes₀ (unkept after) notes′ next (n + 1)
+    unfolding written
+    running-next answer answered after left notes′ noted =
+        let rest = editsFrom (count - (n + 1)) bytes next in
+        record {
+          gives-map =
+              sym (ap (afterEdits e (unkept mesh)) one-left ∙ map-after-first e mesh (editAt bytes at) answer answered after left rest)
+              ∙ running .gives-map;
+          gives-notes =
+              rw noted
+              (sym
+              (ap (written notes n)
+              (ap (editNumbers e (unkept mesh)) one-left ∙ numbers-after-first e mesh (editAt bytes at) answer answered after left rest))
+              ∙ running .gives-notes);
+        }
 
 -- ---- a file's set-point, by its check
 module _ (e : Float) (bytes : List ℕ) (s t : Float) where

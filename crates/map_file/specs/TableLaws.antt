@@ -11,12 +11,12 @@ use Rattle.control_point.specs.declared.refusal.Outcome.{Outcome}
 use Rattle.control_point.specs.declared.refusal.Outcome.the-variants.{Done, Refused as NotBuilt}
 use Rattle.control_point.specs.declared.refusal.Refusal.the-variants.{Length, Version, Heading}
 use Rattle.t_mesh.specs.declared.t_mesh.Tmesh.{Tmesh}
-use Rattle.surface.specs.Evaluation.{evaluationTold, valueOf, answerBy, withKnots, subsOf, setPointTable}
+use Rattle.surface.specs.Evaluation.{evaluationTold, valueOf, answerBy, withKnots, subsOf, asSetPoint, setPointTable}
 use Rattle.surface.specs.EvaluationLaws.{with-knots-told, set-point-told}
 use Rattle.surface.specs.declared.evaluation.Evaluation.{Evaluation}
 use Rattle.map_format.specs.Format.{versionAt, theVersion, editsAt, editCount, lengthRight, headingsRight, checkedFile}
 use Rattle.map_format.specs.declared.format.FileCheck.the-variants.{Valid, Refused}
-use Rattle.map_file.specs.Run.{fileMap, asSetPoint, setPointAt, checkedSetPoint, fileSetPoint}
+use Rattle.map_file.specs.Run.{fileMap, setPointAt, checkedSetPoint, fileSetPoint}
 use Rattle.map_file.specs.Table.{mapSetPointTable, fileSetPointTable}
 
 as-set-point-told : (outcome : Outcome) (value : Evaluation) → evaluationTold (asSetPoint (answerBy outcome value)) ≡ refusedOr outcome (setPointTable value)

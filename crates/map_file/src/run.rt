@@ -1,48 +1,33 @@
-// The run of a file: the map of its border and corners, and its edits in order.
+// The run of a file: the map of its border and corners, and its edits in order, over a lent mesh. No knots are kept from the start, so an edit
+// changes nothing but the mesh.
 ghost use mathlib.Core.Path.{_≡_};
 ghost use Prim.Native.Nat.{_+_};
 ghost use Rattle.big_endian.specs.Written.{written};
 ghost use Rattle.control_point.specs.Small.{millionth};
-ghost use Rattle.map_format.specs.Format.{editBytes};
-ghost use Rattle.surface.specs.Evaluation.{evaluationTold};
-ghost use Rattle.map_file.specs.Run.{freshMap, fileMap, fileNumbers, asSetPoint, setPointAt, fileSetPoint};
-ghost use Rattle.map_file.specs.RunLaws.{SameEdits};
-ghost use Rattle.map_file.specs.Table.{mapSetPointTable, fileSetPointTable};
+ghost use Rattle.lent_mesh.specs.LentMesh.{lentMesh, lentMap, MeshRoom};
+ghost use Rattle.lent_points.specs.Lent.{Room};
+ghost use Rattle.map_format.specs.Format.{editBytes, editAt};
+ghost use Rattle.map_file.specs.Run.{meshEdited, SameEdits, fileMap, fileNumbers};
 use big_endian::float_at;
 use big_endian::put_byte;
 use control_point::small::closeness;
-use evaluation::evaluation::set_point;
-use evaluation::evaluation::subs;
+use insertion::insertion::InsertAnswer;
 use lent_insertion::insert_point;
-use lent_points::packed;
-use lent_points::unpack;
+use lent_mesh::lend_corners;
+use lent_mesh::lent_listed;
+use lent_mesh::packed_map;
+use lent_mesh::row_of;
 use map_format::format::BORDER_AT;
 use map_format::format::CORNERS_AT;
 use map_format::format::EDIT_BYTES;
 use map_format::format::EDITS_AT;
-use map_format::format::FileCheck;
 use map_format::format::POSITION_BYTES;
+use map_format::format::edit_position;
 use map_format::format::position_at;
-use map_format::format::validate;
-use map_format::reader::edit_from;
-use surface::evaluation::EvaluationAnswer;
+use map_format::reader::target_from;
 use t_mesh::add::is_done;
 use t_mesh::add::is_refused;
 use t_mesh::t_mesh::Tmesh;
-use t_mesh::t_mesh::is_listed;
-
-// The map before the edits, its corners anticlockwise from bottom left. It reads zeros past the file's end: `validate` stands before it.
-pub fn fresh_map(file: &[u8]) -> Tmesh
-    ensures { λ r. ⌜ r ≡ freshMap (now (file .entry)) ⌝ }
-{
-    Tmesh::new(
-        float_at(file, BORDER_AT),
-        position_at(file, CORNERS_AT),
-        position_at(file, CORNERS_AT + POSITION_BYTES),
-        position_at(file, CORNERS_AT + 2 * POSITION_BYTES),
-        position_at(file, CORNERS_AT + 3 * POSITION_BYTES),
-    )
-}
 
 // Where the next edit is read. Past the file's end every edit reads the same.
 fn next_place(file: &[u8], at: usize) -> usize
@@ -51,93 +36,137 @@ fn next_place(file: &[u8], at: usize) -> usize
     if at < file.len() { at + EDIT_BYTES } else { at }
 }
 
-// The map after so many edits of a file that `validate` has passed; the answer number of each is noted, as far as there is room. No knots are kept
-// from the start, so an edit changes nothing but the mesh, and of that its points stay lent from the first edit to the last.
-pub fn run_edits(file: &[u8], count: usize, notes: &mut [u8]) -> Tmesh
-    ensures map { λ r. ⌜ r ≡ fileMap millionth (now (file .entry)) count ⌝ }
+// The edit at a place. Its position is read only where it makes a point.
+fn run_edit(
+    file: &[u8],
+    at: usize,
+    kinds: &mut [u8; 512],
+    numbers: &mut [u8; 512],
+    intervals: &mut [f64; 512],
+    coordinates: &mut [f64; 256],
+    made: &mut u8,
+    positions: &mut [[f64; 3]; 128],
+    listed: &mut [bool; 128],
+) -> InsertAnswer
+    requires { ⌜ MeshRoom (now kinds) (now numbers) (now intervals) (now coordinates) (now positions) (now listed) ⌝ }
+    ensures answer { λ r. ⌜ r ≡ meshEdited millionth
+        (lentMesh (now (kinds .entry)) (now (numbers .entry)) (now (intervals .entry)) (now (coordinates .entry)) (now (made .entry)) (now (positions .entry)) (now (listed .entry)))
+        (editAt (now (file .entry)) at) .answer ⌝ }
+    ensures mesh { λ _. ⌜ lentMesh (now (kinds .exit)) (now (numbers .exit)) (now (intervals .exit)) (now (coordinates .exit)) (now (made .exit)) (now (positions .exit)) (now (listed .exit))
+        ≡ meshEdited millionth
+        (lentMesh (now (kinds .entry)) (now (numbers .entry)) (now (intervals .entry)) (now (coordinates .entry)) (now (made .entry)) (now (positions .entry)) (now (listed .entry)))
+        (editAt (now (file .entry)) at) .mesh ⌝ }
+    ensures room { λ _. ⌜ MeshRoom (now (kinds .exit)) (now (numbers .exit)) (now (intervals .exit)) (now (coordinates .exit)) (now (positions .exit)) (now (listed .exit)) ⌝ }
+{
+    let p = *made;
+    let target = target_from(file, at);
+    let direction = target.direction;
+    let answer = insert_point(
+        closeness(),
+        kinds,
+        numbers,
+        intervals,
+        coordinates,
+        p,
+        lent_listed(listed, target.point),
+        target.point,
+        direction,
+        target.ratio,
+    );
+    if is_refused(answer) {
+        return answer;
+    }
+    positions[p as usize] = row_of(edit_position(file, at));
+    listed[p as usize] = is_done(answer);
+    *made = p + 1;
+    answer
+}
+
+// The map of a file's border and corners and so many of its edits, into the arrays of a lent mesh, whatever they held. The file is one that
+// `validate` has passed. The answer number of each edit is noted, as far as there is room.
+pub fn run_lent(
+    file: &[u8],
+    count: usize,
+    notes: &mut [u8],
+    kinds: &mut [u8; 512],
+    numbers: &mut [u8; 512],
+    intervals: &mut [f64; 512],
+    coordinates: &mut [f64; 256],
+    made: &mut u8,
+    positions: &mut [[f64; 3]; 128],
+    listed: &mut [bool; 128],
+)
+    requires { ⌜ Room (now kinds) (now numbers) (now intervals) (now coordinates) ⌝ }
+    ensures map { λ _. ⌜ lentMap (now (kinds .exit)) (now (numbers .exit)) (now (intervals .exit)) (now (coordinates .exit)) (now (made .exit)) (now (positions .exit)) (now (listed .exit))
+        ≡ fileMap millionth (now (file .entry)) count ⌝ }
     ensures notes { λ _. ⌜ now (notes .exit) ≡ written (now (notes .entry)) 0 (fileNumbers millionth (now (file .entry)) count) ⌝ }
 {
-    let mut map = fresh_map(file);
-    let mut mesh = map.mesh;
-    let mut kinds = [0u8; 512];
-    let mut numbers = [0u8; 512];
-    let mut intervals = [0.0; 512];
-    let mut coordinates = [0.0; 256];
-    let fresh = mesh.points;
-    unpack(
-        &mut kinds,
-        &mut numbers,
-        &mut intervals,
-        &mut coordinates,
-        fresh,
-        mesh.made,
+    lend_corners(
+        kinds,
+        numbers,
+        intervals,
+        coordinates,
+        made,
+        positions,
+        listed,
+        float_at(file, BORDER_AT),
+        position_at(file, CORNERS_AT),
+        position_at(file, CORNERS_AT + POSITION_BYTES),
+        position_at(file, CORNERS_AT + 2 * POSITION_BYTES),
+        position_at(file, CORNERS_AT + 3 * POSITION_BYTES),
     );
     let mut at = EDITS_AT;
     let mut n: usize = 0;
     while n < count {
-        let edit = edit_from(file, at);
-        let p = mesh.made;
-        let direction = edit.direction;
-        let answer = insert_point(
-            closeness(),
-            &mut kinds,
-            &mut numbers,
-            &mut intervals,
-            &mut coordinates,
-            p,
-            is_listed(mesh.listed, edit.point),
-            edit.point,
-            direction,
-            edit.ratio,
+        let answer = run_edit(
+            file,
+            at,
+            kinds,
+            numbers,
+            intervals,
+            coordinates,
+            made,
+            positions,
+            listed,
         );
         put_byte(notes, n, answer.number());
-        if !is_refused(answer) {
-            let position = edit.position;
-            mesh.made = p + 1;
-            mesh.positions[p as usize] = position;
-            mesh.listed[p as usize] = is_done(answer);
-        }
         at = next_place(file, at);
         n += 1;
     }
-    let rest = mesh.points;
-    let points = packed(&kinds, &numbers, &intervals, &coordinates, rest, mesh.made);
-    mesh.points = points;
-    map.mesh = mesh;
-    map
 }
 
-// An evaluation's answer as a set-point.
-fn as_set_point(answer: EvaluationAnswer) -> EvaluationAnswer
-    ensures { λ r. ⌜ r ≡ asSetPoint answer ⌝ }
+// The same, with the map by value.
+pub fn run_edits(file: &[u8], count: usize, notes: &mut [u8]) -> Tmesh
+    ensures map { λ r. ⌜ r ≡ fileMap millionth (now (file .entry)) count ⌝ }
+    ensures notes { λ _. ⌜ now (notes .exit) ≡ written (now (notes .entry)) 0 (fileNumbers millionth (now (file .entry)) count) ⌝ }
 {
-    match answer {
-        EvaluationAnswer::Is(value) => set_point(value),
-        EvaluationAnswer::Refused(refusal) => EvaluationAnswer::Refused(refusal),
-    }
-}
-
-// The set-point of a map at (s, t).
-pub fn set_point_at(map: Tmesh, s: f64, t: f64) -> EvaluationAnswer
-    ensures is { λ r. ⌜ r ≡ setPointAt millionth map s t ⌝ }
-    ensures told { λ r. ⌜ evaluationTold r ≡ mapSetPointTable millionth map s t ⌝ }
-{
-    let evaluated = subs(map, s, t);
-    let answer = evaluated.answer;
-    as_set_point(answer)
-}
-
-// The set-point of a file at (s, t), with no room for notes; a refused file runs nothing.
-pub fn file_set_point(file: &[u8], s: f64, t: f64) -> EvaluationAnswer
-    ensures is { λ r. ⌜ r ≡ fileSetPoint millionth (now (file .entry)) s t ⌝ }
-    ensures told { λ r. ⌜ evaluationTold r ≡ fileSetPointTable millionth (now (file .entry)) s t ⌝ }
-{
-    let check = validate(file);
-    match check {
-        FileCheck::Valid(count) => {
-            let mut notes = [0u8; 0];
-            set_point_at(run_edits(file, count, &mut notes), s, t)
-        }
-        FileCheck::Refused(refusal) => EvaluationAnswer::Refused(refusal),
-    }
+    let mut kinds = [0u8; 512];
+    let mut numbers = [0u8; 512];
+    let mut intervals = [0.0; 512];
+    let mut coordinates = [0.0; 256];
+    let mut made: u8 = 0;
+    let row = [0.0; 3];
+    let mut positions = [row; 128];
+    let mut listed = [false; 128];
+    run_lent(
+        file,
+        count,
+        notes,
+        &mut kinds,
+        &mut numbers,
+        &mut intervals,
+        &mut coordinates,
+        &mut made,
+        &mut positions,
+        &mut listed,
+    );
+    packed_map(
+        &kinds,
+        &numbers,
+        &intervals,
+        &coordinates,
+        made,
+        &positions,
+        &listed,
+    )
 }

@@ -12,13 +12,15 @@ use Prim.Native.Nat.{ℕ, zero, suc, _+_, _-_, _/_, _%_}
 use mathlib.Core.Bool.{Bool, true, cond, _&&_}
 use mathlib.Core.List.{List, [], _∷_}
 use lib.Dec.{ltb, leb, eqb}
+use lib.Ieee.{Float}
 use lib.ListN.{length}
 use Rattle.big_endian.specs.BigEndian.{byteAt, numberAt, floatAt}
 use Rattle.control_point.specs.Direction.{directionNumbered}
 use Rattle.control_point.specs.Told.{Told, natural, tells, unless, refusalTold}
 use Rattle.control_point.specs.declared.refusal.Refusal.the-variants.{Length, Version, Heading}
+use Rattle.control_point.specs.declared.t_mesh_direction.TmeshDirection.{TmeshDirection}
 use Rattle.t_mesh.specs.declared.t_mesh.Position.{Position}
-use Rattle.map_format.specs.declared.format.Edit.{Edit}
+use Rattle.map_format.specs.declared.format.EditTarget.{EditTarget}
 use Rattle.map_format.specs.declared.format.FileCheck.{FileCheck}
 use Rattle.map_format.specs.declared.format.FileCheck.the-variants.{Valid, Refused}
 
@@ -64,6 +66,13 @@ positionIn = 10
 abbrev pub positionAt : List ℕ → ℕ → Position
 positionAt bytes at = record { x = floatAt bytes at; y = floatAt bytes (at + 8); z = floatAt bytes (at + 16) }
 
+-- what stands in an edit
+pub record Edit : Type 0 where
+  pub point : ℕ
+  pub direction : TmeshDirection
+  pub ratio : Float
+  pub position : Position
+
 abbrev pub editAt : List ℕ → ℕ → Edit
 editAt bytes at =
     record {
@@ -72,6 +81,10 @@ editAt bytes at =
       ratio = floatAt bytes (at + ratioIn);
       position = positionAt bytes (at + positionIn);
     }
+
+-- where an edit inserts
+abbrev pub targetOf : Edit → EditTarget
+targetOf edit = record { point = edit .point; direction = edit .direction; ratio = edit .ratio }
 
 -- so many edits, from a place on
 unfoldable pub editsFrom : ℕ → List ℕ → ℕ → List Edit

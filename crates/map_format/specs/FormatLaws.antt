@@ -15,7 +15,7 @@ use Rattle.big_endian.specs.BigEndianLaws.{number-after}
 use Rattle.control_point.specs.Told.{natural, tells, unless}
 use Rattle.control_point.specs.declared.refusal.Refusal.{Refusal}
 use Rattle.control_point.specs.declared.refusal.Refusal.the-variants.{Length, Version, Heading}
-use Rattle.map_format.specs.Format.{lengthBytes, versionAt, theVersion, editsAt, editBytes, mostEdits, directionIn, positionAt, editAt, editCount, lengthRight, headingsRight, checkedFile, fileTold, fileTable}
+use Rattle.map_format.specs.Format.{lengthBytes, versionAt, theVersion, editsAt, editBytes, mostEdits, directionIn, positionAt, editAt, targetOf, editCount, lengthRight, headingsRight, checkedFile, fileTold, fileTable}
 use Rattle.map_format.specs.declared.format.FileCheck.the-variants.{Valid, Refused}
 
 -- ---- what stands after the first bytes stands in all bytes, that many places on
@@ -24,6 +24,9 @@ position-after bytes count at = simp (number-after, add-assoc)
 
 pub edit-after : (bytes : List ℕ) (count at : ℕ) → editAt (drop count bytes) at ≡ editAt bytes (count + at)
 edit-after bytes count at = simp (number-after, getD-drop, add-assoc)
+
+pub target-after : (bytes : List ℕ) (count : ℕ) → targetOf (editAt (drop count bytes) 0) ≡ targetOf (editAt bytes count)
+target-after bytes count = ap targetOf (edit-after bytes count 0 ∙ ap (editAt bytes) (omega arith))
 
 -- ---- a right length
 -- of four tests that hold, the first and the last two

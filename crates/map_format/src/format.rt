@@ -1,7 +1,7 @@
 // What the bytes of a map file say, and which files are refused. The places and sizes are those of docs/FORMATS.md.
 ghost use mathlib.Core.Path.{_≡_};
 ghost use Prim.Native.Nat.{_≤_};
-ghost use Rattle.map_format.specs.Format.{editsAt, mostEdits, positionAt, editAt, lengthRight, headingsRight, checkedFile, fileTold, fileTable};
+ghost use Rattle.map_format.specs.Format.{editsAt, mostEdits, positionAt, editAt, targetOf, lengthRight, headingsRight, checkedFile, fileTold, fileTable};
 use big_endian::after;
 use big_endian::byte_at;
 use big_endian::float_at;
@@ -37,11 +37,11 @@ const POSITION_IN: usize = 10;
 
 const DIRECTIONS: u8 = 4;
 
-pub struct Edit {
+// Where an edit inserts: towards a direction of a point, at a ratio of the link there. The edit's position is wanted only where it makes a point.
+pub struct EditTarget {
     pub point: u8,
     pub direction: TmeshDirection,
     pub ratio: f64,
-    pub position: Position,
 }
 
 pub enum FileCheck {
@@ -61,21 +61,27 @@ pub fn position_at(bytes: &[u8], at: usize) -> Position
     Position { x, y, z }
 }
 
-// The edit at a place. Past the end zeros are read, and a direction above 3 as Left: `validate` stands before it.
-pub fn edit_at(bytes: &[u8], at: usize) -> Edit
-    ensures { λ r. ⌜ r ≡ editAt (now (bytes .entry)) at ⌝ }
+// The target of the edit at a place. Past the end zeros are read, and a direction above 3 as Left: `validate` stands before it.
+pub fn target_at(bytes: &[u8], at: usize) -> EditTarget
+    ensures { λ r. ⌜ r ≡ targetOf (editAt (now (bytes .entry)) at) ⌝ }
 {
     let place = after(bytes, at);
     let point = byte_at(place, 0);
     let direction = TmeshDirection::numbered(byte_at(place, DIRECTION_IN));
     let ratio = float_at(place, RATIO_IN);
-    let position = position_at(place, POSITION_IN);
-    Edit {
+    EditTarget {
         point,
         direction,
         ratio,
-        position,
     }
+}
+
+// The position of the edit at a place. Past the end zeros are read: `validate` stands before it.
+pub fn edit_position(file: &[u8], at: usize) -> Position
+    ensures { λ r. ⌜ r ≡ editAt (now (file .entry)) at .position ⌝ }
+{
+    let place = after(file, at);
+    position_at(place, POSITION_IN)
 }
 
 // Whether the count at the start is that of the bytes that follow, and these are the head and up to 1,000 whole edits.

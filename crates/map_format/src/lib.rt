@@ -1,3 +1,3 @@
-// The format of a map file, and the reader of its edits.
+// The format of a map file, and the reader of its edits' targets.
 pub mod format;
 pub mod reader;

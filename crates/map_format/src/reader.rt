@@ -1,9 +1,9 @@
-// The reader of a file's edits: the lent bytes and a cursor.
+// The reader of the targets of a file's edits: the lent bytes and a cursor.
 ghost use mathlib.Core.Path.{_≡_};
-ghost use Rattle.map_format.specs.Format.{editsAt, editAt};
+ghost use Rattle.map_format.specs.Format.{editsAt, editAt, targetOf};
 use crate::format::EDITS_AT;
-use crate::format::Edit;
-use crate::format::edit_at;
+use crate::format::EditTarget;
+use crate::format::target_at;
 
 pub struct MapReader<'a> {
     pub bytes: &'a [u8],
@@ -31,17 +31,17 @@ impl<'a> MapReader<'a> {
         }
     }
 
-    // The edit at the cursor.
-    pub fn edit_here(self) -> Edit
-        ensures { λ r. ⌜ r ≡ editAt (now (self .entry .bytes)) (self .entry .at) ⌝ }
+    // The target of the edit at the cursor.
+    pub fn target_here(self) -> EditTarget
+        ensures { λ r. ⌜ r ≡ targetOf (editAt (now (self .entry .bytes)) (self .entry .at)) ⌝ }
     {
-        edit_at(self.bytes, self.at)
+        target_at(self.bytes, self.at)
     }
 }
 
-// The edit at a place of a file that `validate` has passed: it reads as `edit_at` does.
-pub fn edit_from(file: &[u8], at: usize) -> Edit
-    ensures { λ r. ⌜ r ≡ editAt (now (file .entry)) at ⌝ }
+// The target of the edit at a place of a file that `validate` has passed: it reads as `target_at` does.
+pub fn target_from(file: &[u8], at: usize) -> EditTarget
+    ensures { λ r. ⌜ r ≡ targetOf (editAt (now (file .entry)) at) ⌝ }
 {
-    MapReader::new(file).moved(at).edit_here()
+    MapReader::new(file).moved(at).target_here()
 }

@@ -14,9 +14,8 @@ use Rattle.surface.specs.declared.evaluation.EvaluationAnswer.{EvaluationAnswer
 use Rattle.surface.specs.declared.evaluation.EvaluationAnswer.the-variants.{Is, Refused as NotEvaluated}
 use Rattle.census.specs.Census.{isOpen}
 use Rattle.census.specs.declared.census.Counts.{Counts}
-use Rattle.map_format.specs.Format.{editsAt, editBytes, editsFrom}
+use Rattle.map_format.specs.Format.{editsAt, editBytes, Edit, editsFrom}
 use Rattle.map_file.specs.Run.{edited, freshMap, editNumbers, fileNumbers}
-use Rattle.map_format.specs.declared.format.Edit.{Edit}
 use Rattle.report_text.specs.Text.{editWord, openWord, newline, decimal, numberText, bitsText, refusedText}
 use Rattle.report_lines.specs.Lines.{editLine, editLines, countsLine, openLine, openLines, midText, midLine}
 

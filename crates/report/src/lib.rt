@@ -9,10 +9,10 @@ ghost use Rattle.report.specs.Report.{mapReport, fileRefused, validRepor
 use census::counts::counts;
 use control_point::refusal::Refusal;
 use map_file::run::run_edits;
-use map_file::run::set_point_at;
 use map_format::format::FileCheck;
 use map_format::format::MOST_EDITS;
 use map_format::format::validate;
+use map_set_point::set_point_at;
 use report_lines::lines::put_counts_line;
 use report_lines::lines::put_edit_lines;
 use report_lines::lines::put_mid_line;

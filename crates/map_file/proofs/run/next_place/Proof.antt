@@ -1,4 +1,5 @@
 -- `next_place` meets its contract: where it stays, it is past the end.
+use mathlib.Core.Path.{refl}
 use borrow.Author.Needs.{needs}
 use native.Mathlib.Omega.{arith}
 use Rattle.map_file.specs.RunLaws.{same-past}
@@ -9,7 +10,7 @@ add-result : tie.Need-add-result
 add-result c = search needs
 
 returns : tie.Need-returns
-returns c = search needs
+returns c count = refl
 
 returns-2 : tie.Need-returns-2
 returns-2 c = same-past (c .before .args .file .now) (c .before .args .at) (omega arith)

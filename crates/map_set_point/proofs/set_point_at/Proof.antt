@@ -3,12 +3,11 @@ use borrow.Author.Needs.{needs}
 use mathlib.Core.Path.{_∙_, ap}
 use Rattle.control_point.specs.Small.{millionth}
 use Rattle.control_point.specs.ToldLaws.{beside}
-use Rattle.surface.specs.Evaluation.{evaluationTold}
+use Rattle.surface.specs.Evaluation.{evaluationTold, asSetPoint}
 use Rattle.surface.specs.declared.evaluation.Evaluated.{Evaluated}
-use Rattle.map_file.specs.Run.{asSetPoint}
 use Rattle.map_file.specs.TableLaws.{map-set-point-told}
-use Rattle.map_file.proofs.run.set_point_at.Statement.{statement}
-use Rattle.map_file.proofs.run.set_point_at.Tie as tie
+use Rattle.map_set_point.proofs.set_point_at.Statement.{statement}
+use Rattle.map_set_point.proofs.set_point_at.Tie as tie
 
 subs-requires : tie.Need-subs-requires
 subs-requires c κs = search needs

@@ -1,4 +1,4 @@
--- `edit_from` meets its contract, by a walk of its MIR: a reader that `new` returns is moved to the place asked, and `edit_here` reads there. Of the three only their contracts are known.
+-- `target_from` meets its contract, by a walk of its MIR: a reader that `new` returns is moved to the place asked, and `target_here` reads there. Of the three only their contracts are known.
 -- A local that holds the struct has its type at `erased`: what the struct owns does not say the lifetime's name.
 use mathlib.Core.Path.{_≡_, refl, ap, _∙_}
 use Prim.Native.Nat.{ℕ, _<_, _^_}
@@ -36,13 +36,13 @@ use denote.Triple.Table.{entered, cited}
 use denote.Triple.Walked.{says, Stays, stay-none, stay-none-slice, walkOf, goes-none, goes-none-slice, Walks, ends-at, walked, walk-meets}
 use denote.Exit.{yes}
 use denote.Triple.Clauses.{ensured, lasts}
-use Rattle.map_format.specs.Format.{editsAt, editAt}
+use Rattle.map_format.specs.Format.{editsAt, editAt, targetOf}
 use Rattle.map_format.specs.declared.reader.MapReader.{MapReader}
-use Rattle.map_format.specs.declared.format.Edit.{Edit}
+use Rattle.map_format.specs.declared.format.EditTarget.{EditTarget}
 use Rattle.map_format.proofs.reader.MapReader as T
 use Rattle.map_format.proofs.reader.MapReader.Laws as T′
-use Rattle.map_format.proofs.format.Edit as S
-use Rattle.map_format.proofs.format.Edit.Laws as S′
+use Rattle.map_format.proofs.format.EditTarget as S
+use Rattle.map_format.proofs.format.EditTarget.Laws as S′
 use Rattle.map_format.proofs.reader.MapReader.new as new
 use Rattle.map_format.proofs.reader.MapReader.new.Symbol as new-def
 use Rattle.map_format.proofs.reader.MapReader.new.Symbol.{name as #new}
@@ -51,14 +51,14 @@ use Rattle.map_format.proofs.reader.MapReader.moved as moved
 use Rattle.map_format.proofs.reader.MapReader.moved.Symbol as moved-def
 use Rattle.map_format.proofs.reader.MapReader.moved.Symbol.{name as #moved}
 use Rattle.map_format.proofs.reader.MapReader.moved.Met as moved-thm
-use Rattle.map_format.proofs.reader.MapReader.edit_here as here
-use Rattle.map_format.proofs.reader.MapReader.edit_here.Symbol as here-def
-use Rattle.map_format.proofs.reader.MapReader.edit_here.Symbol.{name as #edit-here}
-use Rattle.map_format.proofs.reader.MapReader.edit_here.Met as here-thm
-use Rattle.map_format.proofs.reader.edit_from.Key.{name as #edit-from}
-use Rattle.map_format.proofs.reader.edit_from as this
-use Rattle.map_format.proofs.reader.edit_from.Statement as stated
-use Rattle.map_format.proofs.reader.edit_from.Code as code
+use Rattle.map_format.proofs.reader.MapReader.target_here as here
+use Rattle.map_format.proofs.reader.MapReader.target_here.Symbol as here-def
+use Rattle.map_format.proofs.reader.MapReader.target_here.Symbol.{name as #target-here}
+use Rattle.map_format.proofs.reader.MapReader.target_here.Met as here-thm
+use Rattle.map_format.proofs.reader.target_from.Key.{name as #target-from}
+use Rattle.map_format.proofs.reader.target_from as this
+use Rattle.map_format.proofs.reader.target_from.Statement as stated
+use Rattle.map_format.proofs.reader.target_from.Code as code
 
 -- the struct's type, over the signature's lifetimes
 abbrev B : Lfts 1 → RattleType
@@ -86,8 +86,8 @@ module _ {M : Type 1} (𝓤 : URA M) (H : Heap 𝓤) (A : Atoms 𝓤) (W : Given
   abbrev at : Vals this.signature (κ, tt)
   at = (v ∷ [], (vint w64 n ∷ [], tt))
 
-  abbrev found : Edit
-  found = editAt (now s) n
+  abbrev found : EditTarget
+  found = targetOf (editAt (now s) n)
 
   -- the struct's type as a local of a body has it
   abbrev αᵉ : NamedLft
@@ -130,7 +130,7 @@ module _ {M : Type 1} (𝓤 : URA M) (H : Heap 𝓤) (A : Atoms 𝓤) (W : Given
   moved-said : (r r′ : MapReader) → ent 𝓤 (ensured 𝓤 H A moved.ended (moved.clauses 𝓤 H A mem run) (κ, tt) (r, (n, tt)) tt r′) (fact 𝓤 (Moved-said r r′))
   moved-said r r′ = exE 𝓤 _ (λ ws. snd∗ 𝓤 (sem 𝓤 H A (lasts moved.ended (κ, tt) (r, (n, tt)) ws)) (fact 𝓤 (Moved-said r r′)))
 
-  -- the call of `edit_here`
+  -- the call of `target_here`
   abbrev to-here : MapReader → Val → Here 𝓤 H A mem run .Ghost
   to-here r u = (((κ, tt), (q, tt), tt, (r, tt), (u ∷ [], tt)), tt)
 
@@ -138,10 +138,10 @@ module _ {M : Type 1} (𝓤 : URA M) (H : Heap 𝓤) (A : Atoms 𝓤) (W : Given
   goes-here r u =
       qed W (‵ (B (κ, tt) .own r (u ∷ [])) ∷ (‵ (flft κ q) ⊛ ‵ ftrue) ∷ []) ∵ nothing ! $ move ! (1 ∷ 0 ∷ []) $ fjoin ! $ move ! (1 ∷ 0 ∷ []) $ join ! $ frame ! $ done !
 
-  abbrev Here-said : MapReader → Edit → Type 0
-  Here-said r t = t ≡ editAt (now (r .bytes)) (r .at)
+  abbrev Here-said : MapReader → EditTarget → Type 0
+  Here-said r t = t ≡ targetOf (editAt (now (r .bytes)) (r .at))
 
-  here-said : (r : MapReader) (t : Edit) → ent 𝓤 (ensured 𝓤 H A here.ended (here.clauses 𝓤 H A mem run) (κ, tt) (r, tt) tt t) (fact 𝓤 (Here-said r t))
+  here-said : (r : MapReader) (t : EditTarget) → ent 𝓤 (ensured 𝓤 H A here.ended (here.clauses 𝓤 H A mem run) (κ, tt) (r, tt) tt t) (fact 𝓤 (Here-said r t))
   here-said r t = exE 𝓤 _ (λ ws. snd∗ 𝓤 (sem 𝓤 H A (lasts here.ended (κ, tt) (r, tt) ws)) (fact 𝓤 (Here-said r t)))
 
   -- what the three say together
@@ -151,16 +151,16 @@ module _ {M : Type 1} (𝓤 : URA M) (H : Heap 𝓤) (A : Atoms 𝓤) (W : Given
   reach : (r r′ : MapReader) → New-said r → Moved-said r r′ → place r′
   reach r r′ e e′ = (e′ .0 ∙ e .0, e′ .1)
 
-  found-at : (r : MapReader) → place r → editAt (now (r .bytes)) (r .at) ≡ found
-  found-at r e = ap (λ (x : RefT (List ℕ)). editAt (now x) (r .at)) (e .0) ∙ ap (editAt (now s)) (e .1)
+  found-at : (r : MapReader) → place r → targetOf (editAt (now (r .bytes)) (r .at)) ≡ found
+  found-at r e = ap (λ (x : RefT (List ℕ)). targetOf (editAt (now x) (r .at))) (e .0) ∙ ap (λ (place : ℕ). targetOf (editAt (now s) place)) (e .1)
 
-  exits : (t : Edit) (u : Val) → t ≡ found → ent 𝓤 (⋆ 𝓤 H A (‵ (S.the-row .own t (u ∷ [])) ∷ (‵ (flft κ q) ⊛ ‵ ftrue) ∷ ‵ Own ∷ [])) (Post u)
+  exits : (t : EditTarget) (u : Val) → t ≡ found → ent 𝓤 (⋆ 𝓤 H A (‵ (S.the-row .own t (u ∷ [])) ∷ (‵ (flft κ q) ⊛ ‵ ftrue) ∷ ‵ Own ∷ [])) (Post u)
   exits t u e =
       qed W (‵ (S.the-row .own t (u ∷ [])) ∷ (‵ (flft κ q) ⊛ ‵ ftrue) ∷ ‵ Own ∷ []) ∵
       suffices ! _ (ends-at 𝓤 H A this.ended stayed (this.clauses 𝓤 H A mem run) W (((κ, tt), (q, tt), tt, (s, (n, tt)), at), tt) u t (tt, (tt, tt)) (tt, (tt, tt))) $ says ! e $
       move ! (1 ∷ []) $ frame ! $ nothing ! $ owned ! usize (Is usize) (uint-makes 𝓤 H A W w64) n _ (refl, ok) $ fjoin ! $ move ! (2 ∷ 0 ∷ []) $ fjoin ! $ frame ! $ done !
 
-  module _ (C : Calls 𝓤 H) (Λ : Loops 𝓤 H) (fm : FmC 𝓤 H (W .laws) C) (known-new : Triple 𝓤 (C #new) (New 𝓤 H A mem run)) (known-moved : Triple 𝓤 (C #moved) (Moved 𝓤 H A mem run)) (known-here : Triple 𝓤 (C #edit-here) (Here 𝓤 H A mem run)) where
+  module _ (C : Calls 𝓤 H) (Λ : Loops 𝓤 H) (fm : FmC 𝓤 H (W .laws) C) (known-new : Triple 𝓤 (C #new) (New 𝓤 H A mem run)) (known-moved : Triple 𝓤 (C #moved) (Moved 𝓤 H A mem run)) (known-here : Triple 𝓤 (C #target-here) (Here 𝓤 H A mem run)) where
     walk : Is (ShrSlice (named 0) κ u8) s (v ∷ []) → ent 𝓤 (onEntry 𝓤 H A this.signature (κ, tt) (q, tt) (s, (n, tt)) at) (WpFn 𝓤 H C Λ code.function (v ∷ vint w64 n ∷ []) Post)
     walk p =
         qed W (raw (onEntry 𝓤 H A this.signature (κ, tt) (q, tt) (s, (n, tt)) at) ∷ []) ∵ enter ! C Λ code.function (v ∷ vint w64 n ∷ []) _ $
@@ -181,7 +181,7 @@ module _ {M : Type 1} (𝓤 : URA M) (H : Heap 𝓤) (A : Atoms 𝓤) (W : Given
         land ! (from ! (stop !)) (init ! 5 refl (LL.lawful (T.the-type αᵉ) (T′.the-laws αᵉ) 𝓤 H A W .typed r′ _ is′ .0)) $
         use2 W (raw (Here 𝓤 H A mem run .pre (to-here r′ u′))) (goes-here r′ u′) $
         calls-at ! fm (Here 𝓤 H A mem run) known-here (to-here r′ u′) (and-then ! (load ! (from ! (stop !)) (look ! 4 refl)) (no-more !)) (λ w.
-        use1 W (later (some (λ (t : Edit). ((‵ (flft κ q) ⊛ ‵ ftrue) ⊛ ‵ (S.the-row .own t (w ∷ []))) ⊛ raw (ensured 𝓤 H A here.ended (here.clauses 𝓤 H A mem run) (κ, tt) (r′, tt) tt t)))) (id⊢ 𝓤 _) $ await ! tt $ pick ! (λ t.
+        use1 W (later (some (λ (t : EditTarget). ((‵ (flft κ q) ⊛ ‵ ftrue) ⊛ ‵ (S.the-row .own t (w ∷ []))) ⊛ raw (ensured 𝓤 H A here.ended (here.clauses 𝓤 H A mem run) (κ, tt) (r′, tt) tt t)))) (id⊢ 𝓤 _) $ await ! tt $ pick ! (λ t.
         split ! $ move ! (1 ∷ []) $ use1 W (raw (fact 𝓤 (Here-said r′ t))) (here-said r′ t) $ heard ! (Here-said r′ t) (λ e″. split ! $ move ! (1 ∷ []) $
         -- [the result; the token; what s owns; _4; …; _3; …; _2; …; _1; …; room for _0; …]
         peeks ! S.the-row (Is S.the-row) (shows 𝓤 H A S.the-row) t (w ∷ []) (λ is″.
@@ -191,23 +191,23 @@ module _ {M : Type 1} (𝓤 : URA M) (H : Heap 𝓤) (A : Atoms 𝓤) (W : Given
         by ! (exits t w (e″ ∙ found-at r′ (reach r r′ e e′))))))))))))))))))))
 
 module _ {M : Type 1} (𝓤 : URA M) (H : Heap 𝓤) (A : Atoms 𝓤) (W : Given 𝓤 H A) (mem : Memory → SProp 𝓤) (run : Routine → Fun 𝓤) where
-  edit-from-walks : (C : Calls 𝓤 H) (Λ : Loops 𝓤 H) → FmC 𝓤 H (W .laws) C → Triple 𝓤 (C #new) (New 𝓤 H A mem run) → Triple 𝓤 (C #moved) (Moved 𝓤 H A mem run) → Triple 𝓤 (C #edit-here) (Here 𝓤 H A mem run)
+  target-from-walks : (C : Calls 𝓤 H) (Λ : Loops 𝓤 H) → FmC 𝓤 H (W .laws) C → Triple 𝓤 (C #new) (New 𝓤 H A mem run) → Triple 𝓤 (C #moved) (Moved 𝓤 H A mem run) → Triple 𝓤 (C #target-here) (Here 𝓤 H A mem run)
       → Walks 𝓤 H A this.ended stayed (WpFn 𝓤 H C Λ code.function) (this.clauses 𝓤 H A mem run)
-  edit-from-walks C Λ fm known-new known-moved known-here = walked 𝓤 H A this.ended stayed (this.clauses 𝓤 H A mem run) (WpFn 𝓤 H C Λ code.function) (λ κs. (slice-vals, (uint-vals w64, tt))) (λ κs. (shr-slice-tells (named 0) (κs .0) u8, (uint-tells w64, tt)))
+  target-from-walks C Λ fm known-new known-moved known-here = walked 𝓤 H A this.ended stayed (this.clauses 𝓤 H A mem run) (WpFn 𝓤 H C Λ code.function) (λ κs. (slice-vals, (uint-vals w64, tt))) (λ κs. (shr-slice-tells (named 0) (κs .0) u8, (uint-tells w64, tt)))
       (λ κs qs bounds a g are. via 𝓤 _ (fst∗ 𝓤 _ (emp 𝓤)) (walk 𝓤 H A W mem run (κs .0) (qs .0) (a .0) (a .1 .0) (are .1 .0 .1) C Λ fm known-new known-moved known-here (are .0)))
 
-edit-from-meets : {M : Type 1} (𝓤 : URA M) (H : Heap 𝓤) (A : Atoms 𝓤) (W : Given 𝓤 H A) (mem : Memory → SProp 𝓤) (run : Routine → Fun 𝓤) (𝓣 : Tables 𝓤 H)
-    → Triple 𝓤 (𝓣 .C #new) (New 𝓤 H A mem run) → Triple 𝓤 (𝓣 .C #moved) (Moved 𝓤 H A mem run) → Triple 𝓤 (𝓣 .C #edit-here) (Here 𝓤 H A mem run)
+target-from-meets : {M : Type 1} (𝓤 : URA M) (H : Heap 𝓤) (A : Atoms 𝓤) (W : Given 𝓤 H A) (mem : Memory → SProp 𝓤) (run : Routine → Fun 𝓤) (𝓣 : Tables 𝓤 H)
+    → Triple 𝓤 (𝓣 .C #new) (New 𝓤 H A mem run) → Triple 𝓤 (𝓣 .C #moved) (Moved 𝓤 H A mem run) → Triple 𝓤 (𝓣 .C #target-here) (Here 𝓤 H A mem run)
     → Meets 𝓤 H A this.signature (WpFn 𝓤 H (𝓣 .C) (𝓣 .Λ) code.function) (this.spec 𝓤 H A mem run)
-edit-from-meets 𝓤 H A W mem run 𝓣 known-new known-moved known-here = walk-meets 𝓤 H A this.ended stayed W (goes-none-slice 𝓤 H A W 1 (0 ∷ []) tt (plain (λ _. u8)) yes, (goes-none 𝓤 H A W 1 (λ _. usize) yes (λ κs x f. refl), tt)) (this.clauses 𝓤 H A mem run) (WpFn 𝓤 H (𝓣 .C) (𝓣 .Λ) code.function) (WpFn-mono 𝓤 H (W .laws) 𝓣 code.function)
-    (edit-from-walks 𝓤 H A W mem run (𝓣 .C) (𝓣 .Λ) (fmOf 𝓤 H (W .laws) 𝓣) known-new known-moved known-here)
+target-from-meets 𝓤 H A W mem run 𝓣 known-new known-moved known-here = walk-meets 𝓤 H A this.ended stayed W (goes-none-slice 𝓤 H A W 1 (0 ∷ []) tt (plain (λ _. u8)) yes, (goes-none 𝓤 H A W 1 (λ _. usize) yes (λ κs x f. refl), tt)) (this.clauses 𝓤 H A mem run) (WpFn 𝓤 H (𝓣 .C) (𝓣 .Λ) code.function) (WpFn-mono 𝓤 H (W .laws) 𝓣 code.function)
+    (target-from-walks 𝓤 H A W mem run (𝓣 .C) (𝓣 .Λ) (fmOf 𝓤 H (W .laws) 𝓣) known-new known-moved known-here)
 
-pub edit-from-spec : {M : Type 1} → stated.statement M
+pub target-from-spec : {M : Type 1} → stated.statement M
 unfolding code.routine tablesOf
-edit-from-spec 𝓤 H 𝓜 𝓖 𝓡 =
+target-from-spec 𝓤 H 𝓜 𝓖 𝓡 =
     entered 𝓤 H (tripleOf 𝓤 H (𝓖 .A) this.signature (this.spec 𝓤 H (𝓖 .A) (𝓜 .mem) (𝓡 .run)))
-    (tables 𝓤 H 𝓜 𝓡 code.env .C) (tables 𝓤 H 𝓜 𝓡 code.env .Λ) #edit-from code.function (code.unfolded 𝓤 H 𝓜 𝓡)
-    (edit-from-meets 𝓤 H (𝓖 .A) (givenOf 𝓤 H 𝓜 𝓖) (𝓜 .mem) (𝓡 .run) (tablesOf 𝓤 H 𝓜 (tables 𝓤 H 𝓜 𝓡 code.env))
+    (tables 𝓤 H 𝓜 𝓡 code.env .C) (tables 𝓤 H 𝓜 𝓡 code.env .Λ) #target-from code.function (code.unfolded 𝓤 H 𝓜 𝓡)
+    (target-from-meets 𝓤 H (𝓖 .A) (givenOf 𝓤 H 𝓜 𝓖) (𝓜 .mem) (𝓡 .run) (tablesOf 𝓤 H 𝓜 (tables 𝓤 H 𝓜 𝓡 code.env))
     (cited 𝓤 H (New 𝓤 H (𝓖 .A) (𝓜 .mem) (𝓡 .run)) 𝓜 𝓡 code.env #new new-def.routine code.calls-map-format·reader·MapReader·new (new-thm.met 𝓤 H 𝓜 𝓖 𝓡))
     (cited 𝓤 H (Moved 𝓤 H (𝓖 .A) (𝓜 .mem) (𝓡 .run)) 𝓜 𝓡 code.env #moved moved-def.routine code.calls-map-format·reader·MapReader·moved (moved-thm.met 𝓤 H 𝓜 𝓖 𝓡))
-    (cited 𝓤 H (Here 𝓤 H (𝓖 .A) (𝓜 .mem) (𝓡 .run)) 𝓜 𝓡 code.env #edit-here here-def.routine code.calls-map-format·reader·MapReader·edit-here (here-thm.met 𝓤 H 𝓜 𝓖 𝓡)))
+    (cited 𝓤 H (Here 𝓤 H (𝓖 .A) (𝓜 .mem) (𝓡 .run)) 𝓜 𝓡 code.env #target-here here-def.routine code.calls-map-format·reader·MapReader·target-here (here-thm.met 𝓤 H 𝓜 𝓖 𝓡)))

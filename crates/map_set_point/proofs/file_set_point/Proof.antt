@@ -1,17 +1,16 @@
 -- `file_set_point` meets its contract: it is the set-point of the map that the run leaves, or the check's refusal.
 use borrow.Author.Needs.{needs}
-use mathlib.Core.Path.{_≡_, _∙_, sym, ap}
+use mathlib.Core.Path.{_≡_, _∙_, sym}
 use Rattle.control_point.specs.Small.{millionth}
 use Rattle.control_point.specs.ToldLaws.{beside}
 use Rattle.surface.specs.Evaluation.{evaluationTold}
 use Rattle.surface.specs.declared.evaluation.EvaluationAnswer.{EvaluationAnswer}
-use Rattle.t_mesh.specs.declared.t_mesh.Tmesh.{Tmesh}
-use Rattle.map_file.specs.Run.{setPointAt, fileSetPoint}
+use Rattle.map_file.specs.Run.{fileSetPoint}
 use Rattle.map_file.specs.RunLaws.{set-point-valid, set-point-refused}
 use Rattle.map_file.specs.Table.{fileSetPointTable}
 use Rattle.map_file.specs.TableLaws.{file-set-point-told}
-use Rattle.map_file.proofs.run.file_set_point.Statement.{statement}
-use Rattle.map_file.proofs.run.file_set_point.Tie as tie
+use Rattle.map_set_point.proofs.file_set_point.Statement.{statement}
+use Rattle.map_set_point.proofs.file_set_point.Tie as tie
 
 -- both clauses, by the equation
 promised : (s : tie.Start) (r : EvaluationAnswer) → let a = s .args in
@@ -25,27 +24,19 @@ validate-requires c κs = search needs
 enum-known-check : tie.Need-enum-known-check
 enum-known-check c = search needs
 
-slice-aggregate-run-edits : tie.Need-slice-aggregate-run-edits
-slice-aggregate-run-edits c = search needs
-
-run-edits-requires : tie.Need-run-edits-requires
-run-edits-requires c κs = search needs
-
-set-point-at-requires : tie.Need-set-point-at-requires
-set-point-at-requires c κs = search needs
+edited-set-point-requires : tie.Need-edited-set-point-requires
+edited-set-point-requires c κs = search needs
 
 enum-known-check-2 : tie.Need-enum-known-check-2
 enum-known-check-2 c = search needs
 
 returns : tie.Need-returns
 returns c =
-    let run = c .before .before in
-    let known = run .before .before .before in
+    let known = c .before .before in
     let check = known .before .before in
     let a = check .before .before .args in
     promised (check .before .before) _
-    (c .set-point-at .ensures .0
-    ∙ ap (λ (map : Tmesh). setPointAt millionth map (a .s) (a .t)) (run .run-edits .ensures .0)
+    (c .edited-set-point .ensures
     ∙ set-point-valid millionth (a .file .now) (a .s) (a .t) _ (sym (check .validate .ensures .0) ∙ known .check .given .1))
 
 returns-2 : tie.Need-returns-2
@@ -61,9 +52,7 @@ file-set-point-spec =
     (tie.spec
     validate-requires
     enum-known-check
-    slice-aggregate-run-edits
-    run-edits-requires
-    set-point-at-requires
+    edited-set-point-requires
     enum-known-check-2
     returns
     returns-2)

@@ -1,0 +1,76 @@
+// The set-point: of a map, and of a map file.
+ghost use mathlib.Core.Path.{_≡_};
+ghost use Rattle.control_point.specs.Small.{millionth};
+ghost use Rattle.map_file.specs.Run.{fileMap, setPointAt, fileSetPoint};
+ghost use Rattle.map_file.specs.Table.{mapSetPointTable, fileSetPointTable};
+ghost use Rattle.surface.specs.Evaluation.{evaluationTold};
+use control_point::small::closeness;
+use evaluation::evaluation::as_set_point;
+use evaluation::evaluation::subs;
+use lent_evaluation::lent_answer;
+use map_file::run::run_lent;
+use map_format::format::FileCheck;
+use map_format::format::validate;
+use surface::evaluation::EvaluationAnswer;
+use t_mesh::t_mesh::Tmesh;
+
+// The set-point of a map at (s, t).
+pub fn set_point_at(map: Tmesh, s: f64, t: f64) -> EvaluationAnswer
+    ensures is { λ r. ⌜ r ≡ setPointAt millionth map s t ⌝ }
+    ensures told { λ r. ⌜ evaluationTold r ≡ mapSetPointTable millionth map s t ⌝ }
+{
+    let evaluated = subs(map, s, t);
+    let answer = evaluated.answer;
+    as_set_point(answer)
+}
+
+// After so many edits, with no room for notes. The mesh stays lent from its corners to the answer: no map stands by value.
+fn edited_set_point(file: &[u8], count: usize, s: f64, t: f64) -> EvaluationAnswer
+    ensures { λ r. ⌜ r ≡ setPointAt millionth (fileMap millionth (now (file .entry)) count) s t ⌝ }
+{
+    let mut kinds = [0u8; 512];
+    let mut numbers = [0u8; 512];
+    let mut intervals = [0.0; 512];
+    let mut coordinates = [0.0; 256];
+    let mut made: u8 = 0;
+    let row = [0.0; 3];
+    let mut positions = [row; 128];
+    let mut listed = [false; 128];
+    let mut notes = [0u8; 0];
+    run_lent(
+        file,
+        count,
+        &mut notes,
+        &mut kinds,
+        &mut numbers,
+        &mut intervals,
+        &mut coordinates,
+        &mut made,
+        &mut positions,
+        &mut listed,
+    );
+    as_set_point(lent_answer(
+        closeness(),
+        &kinds,
+        &numbers,
+        &intervals,
+        &coordinates,
+        made,
+        &positions,
+        &listed,
+        s,
+        t,
+    ))
+}
+
+// The set-point of a file at (s, t); a refused file runs nothing.
+pub fn file_set_point(file: &[u8], s: f64, t: f64) -> EvaluationAnswer
+    ensures is { λ r. ⌜ r ≡ fileSetPoint millionth (now (file .entry)) s t ⌝ }
+    ensures told { λ r. ⌜ evaluationTold r ≡ fileSetPointTable millionth (now (file .entry)) s t ⌝ }
+{
+    let check = validate(file);
+    match check {
+        FileCheck::Valid(count) => edited_set_point(file, count, s, t),
+        FileCheck::Refused(refusal) => EvaluationAnswer::Refused(refusal),
+    }
+}
