@@ -185,7 +185,15 @@ fn main() {
         line(&format!("walk of {moves} moves, over lent sides"), 1.0, 20000, &edits, &file, bench_lent_walks, locks::walks, cells::walks);
     }
     line("basis_function", 1.0, 1000000, &[], &[], bench_bases, locks::bases, cells::bases);
-    for (name, edits) in [("124 edits done, 876 refused", filling()), ("1,000 edits drawn blindly", any_edits())] {
-        line(&format!("file of {name}"), 1.0, 20, &edits, &map_file(&edits), files, locks::files, cells::files);
+    for (name, edits) in [
+        ("no edits", drawn(4)),
+        ("12 edits done", drawn(16)),
+        ("60 edits done", drawn(64)),
+        ("124 edits done", drawn(MOST_POINTS)),
+        ("124 edits done, 876 refused", filling()),
+        ("1,000 edits drawn blindly", any_edits()),
+    ] {
+        let turns = 20000 / (edits.len() as u64 + 10);
+        line(&format!("file of {name}"), 1.0, turns, &edits, &map_file(&edits), files, locks::files, cells::files);
     }
 }

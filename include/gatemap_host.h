@@ -29,8 +29,8 @@ enum {
     GATEMAP_VALUE_BYTES = 32,
     /* The longest file that is not refused: 4 + 105 + 34 * 1,000 bytes. */
     GATEMAP_MOST_FILE_BYTES = 34109,
-    /* The stack that a call may take: 99,600 bytes were measured (tests/host). */
-    GATEMAP_STACK_BYTES = 114688
+    /* The stack that a call may take: at most 11,312 bytes were measured (tests/host). */
+    GATEMAP_STACK_BYTES = 24576
 };
 
 /*

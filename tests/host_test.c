@@ -7,7 +7,7 @@
  * byte read or written too far ends the test; what of the buffer's page is not to be written is looked at after each call.
  * The program is run once on each file, and must end with status 0 and print the file's report and nothing else. The report is the stored text
  * or, of a file made here, the text that document 01 asks for; its last line is held against the call at (0.5, 0.5).
- * The line also says how much stack was touched, which is held to what the header says.
+ * The line also says how much stack was touched below the highest frame that makes a call, which is held to what the header says.
  */
 #define _GNU_SOURCE
 #include <errno.h>
@@ -102,6 +102,9 @@ struct answer {
     uint8_t value[GATEMAP_VALUE_BYTES];
 };
 
+/* The highest frame from which a call was made. */
+static uintptr_t highest_frame;
+
 static struct answer call_at(const uint8_t *bytes, size_t length, uint64_t s, uint64_t t, size_t room, int at_end)
 {
     struct answer answer;
@@ -109,6 +112,9 @@ static struct answer call_at(const uint8_t *bytes, size_t length, uint64_t s, ui
     uint8_t *out = at_end ? out_room.end - room : out_room.start;
     memcpy(lent, bytes, length);
     memset(out_room.start, FILLER, (size_t)(out_room.end - out_room.start));
+    uintptr_t frame = (uintptr_t)__builtin_frame_address(0);
+    if (frame > highest_frame)
+        highest_frame = frame;
     answer.number = gatemap_set_point(lent, length, s, t, out, room);
     calls++;
     uint8_t *rest = out;
@@ -420,7 +426,7 @@ static void *everything(void *cases)
     return NULL;
 }
 
-/* Does everything on a stack filled beforehand, and says how much of it was touched. What the test itself needs is small beside it. */
+/* Does everything on a stack filled beforehand, and says how much of it was touched below the highest frame that made a call: no call took more. */
 static size_t stack_touched(char *cases)
 {
     pthread_attr_t attributes;
@@ -434,7 +440,7 @@ static size_t stack_touched(char *cases)
     size_t untouched = 0;
     while (untouched < STACK_BYTES && stack[untouched] == FILLER)
         untouched++;
-    return STACK_BYTES - untouched;
+    return highest_frame - (uintptr_t)(stack + untouched);
 }
 
 int main(int argc, char **argv)
