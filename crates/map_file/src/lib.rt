@@ -1,2 +1,2 @@
-// The run of a map file.
-pub mod run;
+// One edit of a map file.
+pub mod edit;

@@ -8,9 +8,9 @@ use control_point::small::closeness;
 use evaluation::evaluation::as_set_point;
 use evaluation::evaluation::subs;
 use lent_evaluation::lent_answer;
-use map_file::run::run_lent;
 use map_format::format::FileCheck;
 use map_format::format::validate;
+use map_run::run_lent;
 use surface::evaluation::EvaluationAnswer;
 use t_mesh::t_mesh::Tmesh;
 

@@ -14,9 +14,9 @@ use Rattle.control_point.specs.Point.{isMade}
 use Rattle.control_point.specs.declared.t_mesh_control_point.TmeshControlPoint.{TmeshControlPoint}
 use Rattle.lent_points.specs.Lent.{Points, lentPoints}
 use Rattle.lent_points.specs.LentLaws.{PackedTo, packed-none, packed-more, made-below}
 use Rattle.lent_mesh.specs.LentMeshLaws.{packed-all}
-use Rattle.lent_mesh.proofs.packed_points.Statement.{statement}
-use Rattle.lent_mesh.proofs.packed_points.Tie as tie
+use Rattle.packed_map.proofs.packed_points.Statement.{statement}
+use Rattle.packed_map.proofs.packed_points.Tie as tie
 
 abbrev Inv-loop : tie.InvT-loop
 Inv-loop kinds numbers intervals coordinates made points₀ k₀ points k = (k ≤ 128) × (((m : ℕ) → m < k → isMade made m ≡ true) × PackedTo k (lentPoints kinds numbers intervals coordinates) points₀ points)

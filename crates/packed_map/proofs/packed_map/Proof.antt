@@ -2,10 +2,10 @@
 use borrow.Author.Needs.{needs}
 use denote.Ref.{now}
 use Rattle.lent_points.specs.Lent.{lentPoints}
 use Rattle.lent_mesh.specs.LentMesh.{unkept}
 use Rattle.lent_mesh.specs.LentMeshLaws.{packed-mesh}
-use Rattle.lent_mesh.proofs.packed_map.Statement.{statement}
-use Rattle.lent_mesh.proofs.packed_map.Tie as tie
+use Rattle.packed_map.proofs.packed_map.Statement.{statement}
+use Rattle.packed_map.proofs.packed_map.Tie as tie
 
 packed-points-requires : tie.Need-packed-points-requires
 packed-points-requires c κs = search needs

@@ -3,8 +3,8 @@ use mathlib.Core.Path.{refl}
 use borrow.Author.Needs.{needs}
 use native.Mathlib.Omega.{arith}
 use Rattle.map_file.specs.RunLaws.{same-past}
-use Rattle.map_file.proofs.run.next_place.Statement.{statement}
-use Rattle.map_file.proofs.run.next_place.Tie as tie
+use Rattle.map_file.proofs.edit.next_place.Statement.{statement}
+use Rattle.map_file.proofs.edit.next_place.Tie as tie
 
 add-result : tie.Need-add-result
 add-result c = search needs

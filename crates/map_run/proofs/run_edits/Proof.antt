@@ -1,8 +1,8 @@
 -- `run_edits` meets its contract: the map by value is the one that the arrays hold, and that is the file's.
 use mathlib.Core.Path.{_∙_}
 use borrow.Author.Needs.{needs}
-use Rattle.map_file.proofs.run.run_edits.Statement.{statement}
-use Rattle.map_file.proofs.run.run_edits.Tie as tie
+use Rattle.map_run.proofs.run_edits.Statement.{statement}
+use Rattle.map_run.proofs.run_edits.Tie as tie
 
 run-lent-requires : tie.Need-run-lent-requires
 run-lent-requires c κs = search needs

@@ -6,9 +6,9 @@ use borrow.Author.Needs.{needs}
 use lib.ListN.{length, set, length-set}
 use Rattle.control_point.specs.Small.{millionth}
 use Rattle.lent_mesh.specs.LentMesh.{lentMap, MeshRoom}
 use Rattle.map_file.specs.RunLaws.{Running, fresh-read, running-first, running-next, running-map, running-notes}
-use Rattle.map_file.proofs.run.run_lent.Statement.{statement}
-use Rattle.map_file.proofs.run.run_lent.Tie as tie
+use Rattle.map_run.proofs.run_lent.Statement.{statement}
+use Rattle.map_run.proofs.run_lent.Tie as tie
 
 abbrev Inv-loop : tie.InvT-loop
 Inv-loop file count notes₀ kinds₀ numbers₀ intervals₀ coordinates₀ made₀ positions₀ listed₀ at₀ n₀ notes kinds numbers intervals coordinates made positions listed at n =

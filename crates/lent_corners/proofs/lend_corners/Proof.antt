@@ -1,9 +1,9 @@
 -- `lend_corners` meets its contract: the points are the four corners, and the rows and the listing are stored whole, then corner by corner.
 use mathlib.Core.Path.{refl}
 use borrow.Author.Needs.{needs}
 use Rattle.lent_mesh.specs.LentMeshLaws.{corner-rows, corners-map}
-use Rattle.lent_mesh.proofs.lend_corners.Statement.{statement}
-use Rattle.lent_mesh.proofs.lend_corners.Tie as tie
+use Rattle.lent_corners.proofs.lend_corners.Statement.{statement}
+use Rattle.lent_corners.proofs.lend_corners.Tie as tie
 
 lend-corner-points-requires : tie.Need-lend-corner-points-requires
 lend-corner-points-requires c κs = search needs

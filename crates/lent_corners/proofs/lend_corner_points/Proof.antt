@@ -1,8 +1,8 @@
 -- `lend_corner_points` meets its contract: each corner is put under its number.
 use borrow.Author.Needs.{needs}
 use Rattle.lent_mesh.specs.LentMeshLaws.{corners-filled}
-use Rattle.lent_mesh.proofs.lend_corner_points.Statement.{statement}
-use Rattle.lent_mesh.proofs.lend_corner_points.Tie as tie
+use Rattle.lent_corners.proofs.lend_corner_points.Statement.{statement}
+use Rattle.lent_corners.proofs.lend_corner_points.Tie as tie
 
 corners-requires : tie.Need-corners-requires
 corners-requires c κs = search needs

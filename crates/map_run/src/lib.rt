@@ -1,86 +1,22 @@
-// The run of a file: the map of its border and corners, and its edits in order, over a lent mesh. No knots are kept from the start, so an edit
-// changes nothing but the mesh.
+// The run of a file: the map of its border and corners, and its edits in order, over a lent mesh.
 ghost use mathlib.Core.Path.{_≡_};
-ghost use Prim.Native.Nat.{_+_};
 ghost use Rattle.big_endian.specs.Written.{written};
 ghost use Rattle.control_point.specs.Small.{millionth};
-ghost use Rattle.lent_mesh.specs.LentMesh.{lentMesh, lentMap, MeshRoom};
+ghost use Rattle.lent_mesh.specs.LentMesh.{lentMap};
 ghost use Rattle.lent_points.specs.Lent.{Room};
-ghost use Rattle.map_format.specs.Format.{editBytes, editAt};
-ghost use Rattle.map_file.specs.Run.{meshEdited, SameEdits, fileMap, fileNumbers};
+ghost use Rattle.map_file.specs.Run.{fileMap, fileNumbers};
 use big_endian::float_at;
 use big_endian::put_byte;
-use control_point::small::closeness;
-use insertion::insertion::InsertAnswer;
-use lent_insertion::insert_point;
-use lent_mesh::lend_corners;
-use lent_mesh::lent_listed;
-use lent_mesh::packed_map;
-use lent_mesh::row_of;
+use lent_corners::lend_corners;
+use map_file::edit::next_place;
+use map_file::edit::run_edit;
 use map_format::format::BORDER_AT;
 use map_format::format::CORNERS_AT;
-use map_format::format::EDIT_BYTES;
 use map_format::format::EDITS_AT;
 use map_format::format::POSITION_BYTES;
-use map_format::format::edit_position;
 use map_format::format::position_at;
-use map_format::reader::target_from;
-use t_mesh::add::is_done;
-use t_mesh::add::is_refused;
+use packed_map::packed_map;
 use t_mesh::t_mesh::Tmesh;
-
-// Where the next edit is read. Past the file's end every edit reads the same.
-fn next_place(file: &[u8], at: usize) -> usize
-    ensures { λ r. ⌜ SameEdits (now (file .entry)) r (at + editBytes) ⌝ }
-{
-    if at < file.len() { at + EDIT_BYTES } else { at }
-}
-
-// The edit at a place. Its position is read only where it makes a point.
-fn run_edit(
-    file: &[u8],
-    at: usize,
-    kinds: &mut [u8; 512],
-    numbers: &mut [u8; 512],
-    intervals: &mut [f64; 512],
-    coordinates: &mut [f64; 256],
-    made: &mut u8,
-    positions: &mut [[f64; 3]; 128],
-    listed: &mut [bool; 128],
-) -> InsertAnswer
-    requires { ⌜ MeshRoom (now kinds) (now numbers) (now intervals) (now coordinates) (now positions) (now listed) ⌝ }
-    ensures answer { λ r. ⌜ r ≡ meshEdited millionth
-        (lentMesh (now (kinds .entry)) (now (numbers .entry)) (now (intervals .entry)) (now (coordinates .entry)) (now (made .entry)) (now (positions .entry)) (now (listed .entry)))
-        (editAt (now (file .entry)) at) .answer ⌝ }
-    ensures mesh { λ _. ⌜ lentMesh (now (kinds .exit)) (now (numbers .exit)) (now (intervals .exit)) (now (coordinates .exit)) (now (made .exit)) (now (positions .exit)) (now (listed .exit))
-        ≡ meshEdited millionth
-        (lentMesh (now (kinds .entry)) (now (numbers .entry)) (now (intervals .entry)) (now (coordinates .entry)) (now (made .entry)) (now (positions .entry)) (now (listed .entry)))
-        (editAt (now (file .entry)) at) .mesh ⌝ }
-    ensures room { λ _. ⌜ MeshRoom (now (kinds .exit)) (now (numbers .exit)) (now (intervals .exit)) (now (coordinates .exit)) (now (positions .exit)) (now (listed .exit)) ⌝ }
-{
-    let p = *made;
-    let target = target_from(file, at);
-    let direction = target.direction;
-    let answer = insert_point(
-        closeness(),
-        kinds,
-        numbers,
-        intervals,
-        coordinates,
-        p,
-        lent_listed(listed, target.point),
-        target.point,
-        direction,
-        target.ratio,
-    );
-    if is_refused(answer) {
-        return answer;
-    }
-    positions[p as usize] = row_of(edit_position(file, at));
-    listed[p as usize] = is_done(answer);
-    *made = p + 1;
-    answer
-}
 
 // The map of a file's border and corners and so many of its edits, into the arrays of a lent mesh, whatever they held. The file is one that
 // `validate` has passed. The answer number of each edit is noted, as far as there is room.

@@ -7,10 +7,10 @@ use denote.Ref.{now}
 use lib.ListN.{length-replicate, set}
 use Rattle.t_mesh.specs.Tmesh.{origin}
 use Rattle.t_mesh.specs.declared.t_mesh.Position.{Position}
 use Rattle.lent_mesh.specs.LentMesh.{lentPosition}
 use Rattle.lent_mesh.specs.LentMeshLaws.{StoredTo, stored-none, stored-more, stored-all}
-use Rattle.lent_mesh.proofs.packed_positions.Statement.{statement}
-use Rattle.lent_mesh.proofs.packed_positions.Tie as tie
+use Rattle.packed_map.proofs.packed_positions.Statement.{statement}
+use Rattle.packed_map.proofs.packed_positions.Tie as tie
 
 abbrev Inv-loop : tie.InvT-loop
 Inv-loop positions places₀ n₀ places n = (n ≤ 128) × StoredTo (lentPosition positions) origin n places

@@ -16,8 +16,8 @@ use Rattle.map_format.specs.Format.{Edit, editAt, targetOf}
 use Rattle.map_format.specs.declared.format.EditTarget.{EditTarget}
 use Rattle.t_mesh.specs.Insertion.{isRefused}
 use Rattle.t_mesh.specs.Tmesh.{listedIn}
-use Rattle.map_file.proofs.run.run_edit.Statement.{statement}
-use Rattle.map_file.proofs.run.run_edit.Tie as tie
+use Rattle.map_file.proofs.edit.run_edit.Statement.{statement}
+use Rattle.map_file.proofs.edit.run_edit.Tie as tie
 
 abbrev begun : tie.After-insert-point → tie.Start
 begun c = c .before .before .before .before .before .before .before .before .before .before .before

@@ -1,0 +1,79 @@
+// The map by value that a lent mesh holds.
+ghost use mathlib.Core.Path.{_≡_};
+ghost use Rattle.lent_mesh.specs.LentMesh.{lentPosition, valuesFrom, madeOrLoose, lentMap};
+ghost use Rattle.lent_points.specs.Lent.{lentPoints};
+use control_point::t_mesh_control_point::TmeshControlPoint;
+use control_point::t_mesh_control_point::is_made;
+use control_point::t_mesh_control_point::loose_point;
+use lent_mesh::lent_position;
+use lent_points::lent_point;
+use ray::knots::PointKnots;
+use t_mesh::t_mesh::Mesh;
+use t_mesh::t_mesh::Position;
+use t_mesh::t_mesh::Tmesh;
+
+// The points: the made ones, and loose ones beyond.
+fn packed_points<'a>(
+    kinds: &'a [u8; 512],
+    numbers: &'a [u8; 512],
+    intervals: &'a [f64; 512],
+    coordinates: &'a [f64; 256],
+    made: u8,
+) -> [TmeshControlPoint; 128]
+    ensures { λ r. ⌜ r ≡ valuesFrom (madeOrLoose (lentPoints (now (kinds .entry)) (now (numbers .entry)) (now (intervals .entry)) (now (coordinates .entry))) made) 128 0 ⌝ }
+{
+    let mut points = [loose_point(0.0); 128];
+    let mut k: u8 = 0;
+    while is_made(made, k) {
+        let point = lent_point(kinds, numbers, intervals, coordinates, k);
+        points[k as usize] = point;
+        k += 1;
+    }
+    points
+}
+
+// The positions.
+fn packed_positions<'a>(positions: &'a [[f64; 3]; 128]) -> [Position; 128]
+    ensures { λ r. ⌜ r ≡ valuesFrom (lentPosition (now (positions .entry))) 128 0 ⌝ }
+{
+    let mut places = [Position {
+        x: 0.0,
+        y: 0.0,
+        z: 0.0,
+    }; 128];
+    let mut n: u8 = 0;
+    while n < 128 {
+        places[n as usize] = lent_position(positions, n);
+        n += 1;
+    }
+    places
+}
+
+// The map; no knots are kept.
+pub fn packed_map<'a>(
+    kinds: &'a [u8; 512],
+    numbers: &'a [u8; 512],
+    intervals: &'a [f64; 512],
+    coordinates: &'a [f64; 256],
+    made: u8,
+    positions: &'a [[f64; 3]; 128],
+    listed: &'a [bool; 128],
+) -> Tmesh
+    ensures { λ r. ⌜ r ≡ lentMap (now (kinds .entry)) (now (numbers .entry)) (now (intervals .entry)) (now (coordinates .entry)) made (now (positions .entry)) (now (listed .entry)) ⌝ }
+{
+    let points = packed_points(kinds, numbers, intervals, coordinates, made);
+    let blank = PointKnots {
+        s: [0.0; 5],
+        t: [0.0; 5],
+    };
+    Tmesh {
+        mesh: Mesh {
+            points,
+            made,
+            positions: packed_positions(positions),
+            listed: *listed,
+        },
+        kept: false,
+        knots: [blank; 128],
+    }
+}
