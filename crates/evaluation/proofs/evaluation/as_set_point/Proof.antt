@@ -1,5 +1,7 @@
 -- `as_set_point` meets its contract: its arms are the cases of the answer.
+use mathlib.Core.Path.{sym, ap}
 use borrow.Author.Needs.{needs}
+use Rattle.surface.specs.Evaluation.{asSetPoint}
 use Rattle.evaluation.proofs.evaluation.as_set_point.Statement.{statement}
 use Rattle.evaluation.proofs.evaluation.as_set_point.Tie as tie
 
@@ -16,7 +18,7 @@ returns : tie.Need-returns
 returns c = rw (c .before .before .answer .given .1) (c .set-point .ensures .0)
 
 returns-2 : tie.Need-returns-2
-returns-2 c = rw (c .before .answer2 .given .1)
+returns-2 c = sym (ap asSetPoint (c .before .answer2 .given .1))
 
 pub as-set-point-spec : {M : Type 1} → statement M
 as-set-point-spec =
