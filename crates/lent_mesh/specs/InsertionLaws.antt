@@ -26,8 +26,10 @@ use Rattle.t_mesh.specs.Tmesh.{meshStore, listedIn, origin}
 use Rattle.t_mesh.specs.declared.add.InsertedMesh.{InsertedMesh}
 use Rattle.t_mesh.specs.declared.t_mesh.Mesh.{Mesh}
 use Rattle.t_mesh.specs.declared.t_mesh.Position.{Position}
-use Rattle.lent_mesh.specs.LentMesh.{rowOf, rowPosition, lentPosition, valuesFrom, meshOver}
-use Rattle.lent_mesh.specs.LentMeshLaws.{values-length, values-at, values-are, loosePoints, mesh-held, held-same}
+use Rattle.values.specs.Values.{valuesFrom}
+use Rattle.values.specs.ValuesLaws.{values-length, values-at, values-are}
+use Rattle.lent_mesh.specs.LentMesh.{rowOf, rowPosition, lentPosition, meshOver}
+use Rattle.lent_mesh.specs.LentMeshLaws.{loosePoints, mesh-held, held-same}
 
 -- ---- a row stored anew is its position stored anew
 module _ (positions : List (List Float)) (room : length positions ≡ 128) (n : ℕ) (h : n < 128) (position : Position) where

@@ -1,7 +1,7 @@
 -- A mesh, lent: its points as `lent_points` has them, how many are made, and in two arrays of their own the position of each point, a row of
 -- three floats, and whether it is listed. The mesh that such arrays hold has the made ones of the points, and loose points beyond them. Its
--- map keeps no knots.
-use Prim.Native.Nat.{ℕ, zero, suc, _+_}
+-- map keeps no knots and no index.
+use Prim.Native.Nat.{ℕ}
 use mathlib.Core.Bool.{Bool, false, cond}
 use mathlib.Core.List.{List, [], _∷_}
 use mathlib.Core.Path.{_≡_}
@@ -10,7 +10,8 @@ use lib.ListN.{length, getD, replicate}
 use Rattle.float64.specs.Literals.{zeroLiteral}
 use Rattle.control_point.specs.Point.{isMade, loosePoint}
 use Rattle.lent_points.specs.Lent.{Points, lentPoints, Room}
-use Rattle.t_mesh.specs.Tmesh.{blankKnots}
+use Rattle.values.specs.Values.{valuesFrom}
+use Rattle.t_mesh.specs.Tmesh.{blankKnots, blankIndex}
 use Rattle.t_mesh.specs.declared.t_mesh.Mesh.{Mesh}
 use Rattle.t_mesh.specs.declared.t_mesh.Position.{Position}
 use Rattle.t_mesh.specs.declared.t_mesh.Tmesh.{Tmesh}
@@ -28,11 +29,6 @@ abbrev pub lentPosition : List (List Float) → ℕ → Position
 lentPosition positions n = rowPosition (getD positions n [])
 
 -- ---- the mesh
--- the values of a function at so many numbers, from n on
-unfoldable pub valuesFrom : {A : Type 0} → (ℕ → A) → ℕ → ℕ → List A
-valuesFrom f zero n = []
-valuesFrom f (suc left) n = f n ∷ valuesFrom f left (n + 1)
-
 -- of points, of which so many are made, the made ones and loose ones beyond
 abbrev pub madeOrLoose : Points → ℕ → Points
 madeOrLoose points made n = cond (isMade made n) (points n) (loosePoint zeroLiteral)
@@ -51,9 +47,9 @@ abbrev pub lentMesh : List ℕ → List ℕ → List Float → List Float → �
 lentMesh kinds numbers intervals coordinates made positions listed = meshOver (lentPoints kinds numbers intervals coordinates) made positions listed
 
 -- ---- its map
--- a mesh as a map that keeps no knots
+-- a mesh as a map that keeps no knots and no index
 unfoldable pub unkept : Mesh → Tmesh
-unkept mesh = record { mesh = mesh; kept = false; knots = replicate 128 blankKnots }
+unkept mesh = record { mesh = mesh; kept = false; knots = replicate 128 blankKnots; index = blankIndex }
 
 -- the map that the arrays hold
 abbrev pub lentMap : List ℕ → List ℕ → List Float → List Float → ℕ → List (List Float) → List Bool → Tmesh

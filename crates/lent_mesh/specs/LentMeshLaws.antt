@@ -1,15 +1,15 @@
 -- Laws of a lent mesh: its lists are the values of a function, number by number, so the points of a store that arrays hold over loose points are those of the mesh that they hold;
 -- the map packed by value, and that of the four corners, have such lists.
-use Prim.Native.Nat.{ℕ, zero, suc, _<_, _≤_, _+_}
+use Prim.Native.Nat.{ℕ, zero, suc, _<_, _≤_}
 use mathlib.Core.Path.{_≡_, refl, sym, ap, _∙_, subst}
 use mathlib.Core.Bool.{Bool, true, false, cond}
 use mathlib.Core.List.{List, [], _∷_}
 use native.Mathlib.Omega.{arith}
-use borrow.Author.Tests.{ltb-true, ltb-false, eqb-true, eqb-false}
-use lib.Dec.{ltb, eqb}
+use borrow.Author.Tests.{ltb-true, ltb-false}
+use lib.Dec.{ltb}
 use lib.Ieee.{Float}
-use lib.ListN.{length, length-set, length-replicate, getD, getD-replicate, set, replicate, List·getD-eq-default}
-use lib.Seq.{getD-set-same, getD-set-other, ext-getD}
+use lib.ListN.{length, length-replicate, getD, getD-replicate, replicate, List·getD-eq-default}
+use lib.Seq.{ext-getD}
 use Rattle.float64.specs.Literals.{zeroLiteral}
 use Rattle.control_point.specs.Point.{isMade, loosePoint, blank, pointAt}
 use Rattle.control_point.specs.PointLaws.{isMade-made, isMade-room, made-isMade}
@@ -20,48 +20,9 @@ use Rattle.store.specs.Store.{storePoint}
 use Rattle.store.specs.declared.store.Store.{Store}
 use Rattle.t_mesh.specs.Tmesh.{meshStore, corners, cornerStore, origin, newTmesh}
 use Rattle.t_mesh.specs.declared.t_mesh.Position.{Position}
-use Rattle.lent_mesh.specs.LentMesh.{rowOf, rowPosition, lentPosition, valuesFrom, madeOrLoose, meshOver, unkept}
-
--- ---- the values of a function
-pub values-length : {A : Type 0} (f : ℕ → A) (left n : ℕ) → length (valuesFrom f left n) ≡ left
-unfolding valuesFrom
-values-length f zero n = refl
-values-length f (suc left) n = ap suc (values-length f left (n + 1))
-
-pub values-at : {A : Type 0} (f : ℕ → A) (d : A) (left n m : ℕ) → m < left → getD (valuesFrom f left n) m d ≡ f (n + m)
-unfolding valuesFrom
-values-at f d zero n m h = absurd (omega (arith, h))
-values-at f d (suc left) n zero h = ap f (omega arith)
-values-at f d (suc left) n (suc m) h = values-at f d left (n + 1) m (omega (arith, h)) ∙ ap f (omega arith)
-
--- a list that has them is that list
-pub values-are : {A : Type 0} (f : ℕ → A) (d : A) (count : ℕ) (list : List A) → length list ≡ count → ((n : ℕ) → n < count → getD list n d ≡ f n) → list ≡ valuesFrom f count 0
-values-are f d count list room same =
-    ext-getD d list (valuesFrom f count 0) (room ∙ sym (values-length f count 0))
-    (λ n h. same n (omega (arith, h, room)) ∙ ap f (omega arith) ∙ sym (values-at f d count 0 n (omega (arith, h, room))))
-
--- ---- an array stored, one element after another, as the values of a function
-pub record StoredTo {A : Type 0} (f : ℕ → A) (d : A) (count : ℕ) (array : List A) : Type 0 where
-  pub full : length array ≡ 128
-  pub stored : (n : ℕ) → n < count → getD array n d ≡ f n
-
-module _ {A : Type 0} (f : ℕ → A) (d : A) where
-  pub stored-none : (array : List A) → length array ≡ 128 → StoredTo f d 0 array
-  stored-none array full = record { full = full; stored = λ n h. absurd (omega (arith, h)) }
-
-  pub stored-more : (count : ℕ) (array after : List A) → count < 128 → after ≡ set array count (f count) → StoredTo f d count array → StoredTo f d (count + 1) after
-  stored-more count array after h e so-far =
-      rw e (record { full = length-set array count _ ∙ so-far .full; stored = λ n l. by-test n (eqb n count) refl l })
-    where
-      by-test : (n : ℕ) (b : Bool) → eqb n count ≡ b → n < count + 1 → getD (set array count (f count)) n d ≡ f n
-      by-test n true x l =
-          ap (λ (m : ℕ). getD (set array count (f count)) m d) (eqb-true n count x)
-          ∙ getD-set-same array count (f count) d (omega (arith, h, so-far .full))
-          ∙ ap f (sym (eqb-true n count x))
-      by-test n false x l = getD-set-other array count n (f count) d (eqb-false n count x) ∙ so-far .stored n (omega (arith, l, eqb-false n count x))
-
-  pub stored-all : (count : ℕ) (array : List A) → count ≡ 128 → StoredTo f d count array → array ≡ valuesFrom f 128 0
-  stored-all count array e so-far = values-are f d 128 array (so-far .full) (λ n h. so-far .stored n (omega (arith, h, e)))
+use Rattle.values.specs.Values.{valuesFrom}
+use Rattle.values.specs.ValuesLaws.{values-length, values-at, values-are}
+use Rattle.lent_mesh.specs.LentMesh.{rowOf, rowPosition, lentPosition, madeOrLoose, meshOver, unkept}
 
 -- ---- the points
 -- what stands beyond the made ones

@@ -1,10 +1,12 @@
 // The map by value that a lent mesh holds.
 ghost use mathlib.Core.Path.{_≡_};
-ghost use Rattle.lent_mesh.specs.LentMesh.{lentPosition, valuesFrom, madeOrLoose, lentMap};
+ghost use Rattle.values.specs.Values.{valuesFrom};
+ghost use Rattle.lent_mesh.specs.LentMesh.{lentPosition, madeOrLoose, lentMap};
 ghost use Rattle.lent_points.specs.Lent.{lentPoints};
 use control_point::t_mesh_control_point::TmeshControlPoint;
 use control_point::t_mesh_control_point::is_made;
 use control_point::t_mesh_control_point::loose_point;
+use grid_index::Index;
 use lent_mesh::lent_position;
 use lent_points::lent_point;
 use ray::knots::PointKnots;
@@ -49,7 +51,7 @@ fn packed_positions<'a>(positions: &'a [[f64; 3]; 128]) -> [Position; 128]
     places
 }
 
-// The map; no knots are kept.
+// The map; no knots and no index are kept.
 pub fn packed_map<'a>(
     kinds: &'a [u8; 512],
     numbers: &'a [u8; 512],
@@ -75,5 +77,9 @@ pub fn packed_map<'a>(
         },
         kept: false,
         knots: [blank; 128],
+        index: Index {
+            first: [0; 256],
+            second: [0; 256],
+        },
     }
 }

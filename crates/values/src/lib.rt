@@ -1,0 +1,1 @@
+// Lists as the values of a function: definitions and laws in specs/, no function.
