@@ -1,13 +1,14 @@
--- The knots of all listed points of a map (`generate_knot_vectors`), in the order of the numbers. The first refusal met is the answer,
--- and then the map is as it was. e is the closeness.
+-- The knots of all listed points of a map (`generate_knot_vectors`), in the order of the numbers, and the index built from them. The first
+-- refusal met is the answer, and then the map is as it was. e is the closeness.
 use Prim.Native.Nat.{ℕ, zero, suc, _+_}
-use mathlib.Core.Bool.{Bool, true, cond}
+use mathlib.Core.Bool.{true, cond}
 use mathlib.Core.List.{List}
 use lib.Ieee.{Float}
 use lib.ListN.{set}
 use Rattle.control_point.specs.declared.refusal.Outcome.{Outcome}
 use Rattle.control_point.specs.declared.refusal.Outcome.the-variants.{Done, Refused}
 use Rattle.control_point.specs.declared.refusal.Refusal.{Refusal}
+use Rattle.grid_index.specs.Index.{indexOf}
 use Rattle.ray.specs.Knots.{pointKnotVectors}
 use Rattle.ray.specs.declared.knots.PointKnots.{PointKnots}
 use Rattle.t_mesh.specs.Tmesh.{storeOf, isListed}
@@ -44,9 +45,9 @@ rowsFrom e map (suc left) n rows = onAll (withRow e map n rows) (λ filled. rows
 unfoldable pub allKnots : Float → Tmesh → AllKnots
 allKnots e map = rowsFrom e map 128 0 (map .knots)
 
--- the map that keeps them; refused, the map as it was
+-- the map that keeps them and their index; refused, the map as it was
 abbrev pub keeping : Tmesh → AllKnots → Generated
-keeping map (all rows) = record { outcome = Done; map = record { mesh = map .mesh; kept = true; knots = rows } }
+keeping map (all rows) = record { outcome = Done; map = record { mesh = map .mesh; kept = true; knots = rows; index = indexOf (map .mesh .listed) rows } }
 keeping map (none refusal) = record { outcome = Refused refusal; map = map }
 
 unfoldable pub generateKnotVectors : Float → Tmesh → Generated
@@ -56,8 +57,3 @@ generateKnotVectors e map = keeping map (allKnots e map)
 abbrev pub heldKnots : List PointKnots → AllKnots → ListedKnots
 heldKnots before (all rows) = record { outcome = Done; knots = rows }
 heldKnots before (none refusal) = record { outcome = Refused refusal; knots = before }
-
--- whether knots are kept then: done, they are; refused, where they were
-abbrev pub keptBy : Bool → Outcome → Bool
-keptBy before Done = true
-keptBy before (Refused refusal) = before

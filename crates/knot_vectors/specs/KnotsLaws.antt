@@ -7,19 +7,22 @@ use lib.Ieee.{Float}
 use lib.ListN.{set}
 use Rattle.control_point.specs.Point.{isMade}
 use Rattle.control_point.specs.Sides.{Sides}
+use Rattle.control_point.specs.declared.refusal.Outcome.{Outcome}
 use Rattle.control_point.specs.declared.refusal.Outcome.the-variants.{Done, Refused}
 use Rattle.control_point.specs.declared.refusal.Refusal.{Refusal}
 use Rattle.control_point.specs.declared.t_mesh_direction.TmeshDirection.the-variants.{Up}
+use Rattle.grid_index.specs.Index.{indexOf}
+use Rattle.grid_index.specs.declared.Index.{Index}
 use Rattle.ray.specs.Knots.{knotsAt, pointKnotVectors}
 use Rattle.ray.specs.RayLaws.{ray-unmade}
 use Rattle.ray.specs.declared.knots.KnotsAnswer.{KnotsAnswer}
 use Rattle.ray.specs.declared.knots.PointKnots.{PointKnots}
 use Rattle.store.specs.Store.{storeSides, storePoint}
+use Rattle.store.specs.TablesLaws.{refused-not}
 use Rattle.store.specs.declared.store.Store.{Store}
 use Rattle.t_mesh.specs.Tmesh.{storeOf, isListed}
 use Rattle.t_mesh.specs.declared.t_mesh.Tmesh.{Tmesh}
-use Rattle.knot_vectors.specs.Knots.{AllKnots, all, none, onAll, inRow, withRow, rowsFrom, keeping, heldKnots, keptBy}
-use Rattle.knot_vectors.specs.declared.knots.Generated.{Generated}
+use Rattle.knot_vectors.specs.Knots.{AllKnots, all, none, onAll, inRow, withRow, rowsFrom, keeping, heldKnots}
 use Rattle.knot_vectors.specs.declared.knots.ListedKnots.{ListedKnots}
 
 -- ---- a point's knots over sides
@@ -69,9 +72,17 @@ module _ (e : Float) (map : Tmesh) (n : ℕ) (rows : List PointKnots) where
       rows-refused refusal o = in-row ∙ simp o
 
 -- ---- the map that keeps them
-abbrev pub keepingHeld : Tmesh → ListedKnots → Generated
-keepingHeld map held = record { outcome = held .outcome; map = record { mesh = map .mesh; kept = keptBy (map .kept) (held .outcome); knots = held .knots } }
+-- by what was built and how it came out: done, with the index of it; refused, the map as it was
+module _ (map : Tmesh) where
+  pub keeping-done : (rows : AllKnots) (held : ListedKnots) → held ≡ heldKnots (map .knots) rows → held .outcome ≡ Done → (index : Index) → index ≡ indexOf (map .mesh .listed) (held .knots)
+      → record { outcome = Done; map = record { mesh = map .mesh; kept = true; knots = held .knots; index = index } } ≡ keeping map rows
+  keeping-done (all rows) held is done index i =
+      ap (λ (x : Index). record { outcome = Done; map = record { mesh = map .mesh; kept = true; knots = held .knots; index = x } }) i
+      ∙ ap (λ (x : ListedKnots). keeping map (all (x .knots))) is
+  keeping-done (none refusal) held is done index i = refused-not refusal (sym (ap (λ (x : ListedKnots). x .outcome) is) ∙ done)
 
-pub keeping-held : (map : Tmesh) (rows : AllKnots) → keepingHeld map (heldKnots (map .knots) rows) ≡ keeping map rows
-keeping-held map (all rows) = refl
-keeping-held map (none refusal) = refl
+  pub keeping-refused : (rows : AllKnots) (held : ListedKnots) → held ≡ heldKnots (map .knots) rows → (refusal : Refusal) → held .outcome ≡ Refused refusal
+      → record { outcome = Refused refusal; map = map } ≡ keeping map rows
+  keeping-refused (all rows) held is refusal refused = refused-not refusal (sym refused ∙ ap (λ (x : ListedKnots). x .outcome) is)
+  keeping-refused (none met) held is refusal refused =
+      ap (λ (outcome : Outcome). record { outcome = outcome; map = map }) (sym refused ∙ ap (λ (x : ListedKnots). x .outcome) is)

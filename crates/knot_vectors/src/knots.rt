@@ -1,15 +1,16 @@
-// The knots of all listed points.
+// The knots of all listed points, and their index.
 ghost use mathlib.Core.Path.{_≡_};
 ghost use Rattle.control_point.specs.Sides.{lentSides};
 ghost use Rattle.control_point.specs.Small.{millionth};
 ghost use Rattle.control_point.specs.Told.{outcomeTold};
 ghost use Rattle.store.specs.Store.{storeSides};
 ghost use Rattle.t_mesh.specs.Tmesh.{storeOf};
-ghost use Rattle.knot_vectors.specs.Knots.{allKnots, keptBy, heldKnots, generateKnotVectors};
+ghost use Rattle.knot_vectors.specs.Knots.{allKnots, heldKnots, generateKnotVectors};
 ghost use Rattle.knot_vectors.specs.Table.{generatedTable};
 use control_point::refusal::Outcome;
 use control_point::sides::fill;
 use control_point::small::closeness;
+use grid_index::index_of;
 use ray::knots::PointKnots;
 use ray::knots::knots_at;
 use t_mesh::t_mesh::Tmesh;
@@ -24,16 +25,6 @@ pub struct Generated {
 struct ListedKnots {
     outcome: Outcome,
     knots: [PointKnots; 128],
-}
-
-// Whether knots are kept after building them.
-fn kept_by(before: bool, outcome: Outcome) -> bool
-    ensures { λ r. ⌜ r ≡ keptBy before outcome ⌝ }
-{
-    match outcome {
-        Outcome::Done => true,
-        Outcome::Refused(_) => before,
-    }
 }
 
 // Over the lent sides of the map's own points.
@@ -95,8 +86,20 @@ pub fn generate_knot_vectors(mut map: Tmesh) -> Generated
     fill(&mut kinds, &mut numbers, &mut intervals, points);
     let built = listed_knots(closeness(), &kinds, &numbers, &intervals, map);
     let outcome = built.outcome;
+    if let Outcome::Refused(refusal) = outcome {
+        return Generated {
+            outcome: Outcome::Refused(refusal),
+            map,
+        };
+    }
     let knots = built.knots;
-    map.kept = kept_by(map.kept, outcome);
+    let listed = map.mesh.listed;
+    let index = index_of(listed, knots);
+    map.kept = true;
     map.knots = knots;
-    Generated { outcome, map }
+    map.index = index;
+    Generated {
+        outcome: Outcome::Done,
+        map,
+    }
 }

@@ -12,7 +12,9 @@ use Rattle.control_point.specs.Told.{Told, tells}
 use Rattle.control_point.specs.declared.refusal.Outcome.{Outcome}
 use Rattle.control_point.specs.declared.refusal.Outcome.the-variants.{Done, Refused}
 use Rattle.store.specs.Store.{emptyStore}
-use Rattle.lent_mesh.specs.LentMesh.{rowOf, lentPosition, valuesFrom}
+use Rattle.values.specs.Values.{valuesFrom}
+use Rattle.grid_index.specs.Index.{indexOf}
+use Rattle.lent_mesh.specs.LentMesh.{rowOf, lentPosition}
 use Rattle.ray.specs.declared.knots.PointKnots.{PointKnots}
 use Rattle.t_mesh.specs.declared.t_mesh.Tmesh.{Tmesh}
 use Rattle.knot_vectors.specs.declared.knots.Generated.{Generated}
@@ -36,13 +38,14 @@ lentKnots across upwards n = record { s = getD across n []; t = getD upwards n [
 abbrev pub Full : List (List Float) → List (List Float) → List (List Float) → Type 0
 Full across upwards positions = (length across ≡ 128) × ((length upwards ≡ 128) × (length positions ≡ 128))
 
--- ---- the map that they hold: its knots are kept; of its points, which no evaluation reads, none is made
+-- ---- the map that they hold: its knots and their index are kept; of its points, which no evaluation reads, none is made
 abbrev pub heldMap : List (List Float) → List (List Float) → List (List Float) → List Bool → Tmesh
 heldMap across upwards positions listed =
     record {
       mesh = record { points = emptyStore .points; made = emptyStore .made; positions = valuesFrom (lentPosition positions) 128 0; listed = listed };
       kept = true;
       knots = valuesFrom (lentKnots across upwards) 128 0;
+      index = indexOf listed (valuesFrom (lentKnots across upwards) 128 0);
     }
 
 abbrev pub heldBy : LentArrays → Tmesh

@@ -12,9 +12,10 @@ use Rattle.control_point.specs.declared.refusal.Outcome.{Outcome}
 use Rattle.control_point.specs.declared.refusal.Outcome.the-variants.{Done, Refused}
 use Rattle.control_point.specs.declared.refusal.Refusal.{Refusal}
 use Rattle.lent_mesh.specs.LentMesh.{rowOf, lentPosition}
-use Rattle.lent_mesh.specs.LentMeshLaws.{values-at, values-are, StoredTo, stored-all}
+use Rattle.values.specs.ValuesLaws.{values-at, values-are, StoredTo, stored-all}
 use Rattle.ray.specs.declared.knots.PointKnots.{PointKnots}
-use Rattle.surface.specs.Evaluation.{knotsOf, positionOf, noKnots, noPosition, weightBy, weightOf, shareOf, shareBy, sumFrom, sumOf, valueOf, withKnots}
+use Rattle.grid_index.specs.Index.{noKnots}
+use Rattle.surface.specs.Evaluation.{knotsOf, positionOf, noPosition, weightBy, weightOf, shareOf, shareBy, sumFrom, sumOf, valueOf, withKnots}
 use Rattle.surface.specs.declared.evaluation.Share.{Share}
 use Rattle.t_mesh.specs.Tmesh.{Axis, X, Y, Z, coordinate, isListed}
 use Rattle.t_mesh.specs.declared.t_mesh.Position.{Position}
@@ -24,16 +25,16 @@ use Rattle.knot_vectors.specs.declared.knots.Generated.{Generated}
 use Rattle.lent_surface.specs.Lent.{LentArrays, Full, lent, lentKnots, heldMap, heldBy, lentOf, noneLent, lentAfter, lendOf, lendTable}
 
 -- ---- a list with a function of each element
-with-each : {A B : Type 0} (f : A → B) (d : A) (list : List A) (count : ℕ) (array : List B) → count ≡ 128 → length list ≡ 128 → StoredTo (λ (n : ℕ). f (getD list n d)) (f d) count array → array ≡ map f list
+with-each : {A B : Type 0} (f : A → B) (d : A) (list : List A) (count : ℕ) (array : List B) → count ≡ 128 → length list ≡ 128 → StoredTo (λ (n : ℕ). f (getD list n d)) (f d) 128 count array → array ≡ map f list
 with-each f d list count array e full so-far =
-    stored-all (λ (n : ℕ). f (getD list n d)) (f d) count array e so-far
+    stored-all (λ (n : ℕ). f (getD list n d)) (f d) 128 count array e so-far
     ∙ sym (values-are (λ (n : ℕ). f (getD list n d)) (f d) 128 (map f list) (length-map list f ∙ full) (λ n h. List·getD-map f list n d))
 
 -- every point and the listing stored, the arrays are the map's
 pub all-lent : (own : Tmesh) (count : ℕ) (across upwards positions : List (List Float)) → count ≡ 128 → length (own .knots) ≡ 128 → length (own .mesh .positions) ≡ 128
-    → StoredTo (λ (n : ℕ). knotsOf own n .s) [] count across
-    → StoredTo (λ (n : ℕ). knotsOf own n .t) [] count upwards
-    → StoredTo (λ (n : ℕ). rowOf (positionOf own n)) (rowOf noPosition) count positions
+    → StoredTo (λ (n : ℕ). knotsOf own n .s) [] 128 count across
+    → StoredTo (λ (n : ℕ). knotsOf own n .t) [] 128 count upwards
+    → StoredTo (λ (n : ℕ). rowOf (positionOf own n)) (rowOf noPosition) 128 count positions
     → lent across upwards positions (own .mesh .listed) ≡ lentOf own
 unfolding lentOf
 all-lent own count across upwards positions e k p a u q =

@@ -5,30 +5,17 @@ ghost use lib.ListN.{set};
 ghost use Rattle.control_point.specs.Small.{millionth};
 ghost use Rattle.control_point.specs.Told.{outcomeTold};
 ghost use Rattle.lent_mesh.specs.LentMesh.{rowOf, lentPosition};
-ghost use Rattle.surface.specs.Evaluation.{shareBy, valueOf, withKnots};
+ghost use Rattle.surface.specs.Evaluation.{shareBy, valueOf};
 ghost use Rattle.lent_surface.specs.Lent.{Full, lent, lentKnots, heldMap, lentOf, noneLent, lendOf, lendTable};
 use basis::basis_function;
 use control_point::refusal::Outcome;
+use kept_knots::with_knots;
 use knot_vectors::knots::Generated;
-use knot_vectors::knots::generate_knot_vectors;
 use ray::knots::PointKnots;
 use surface::evaluation::Evaluation;
 use surface::evaluation::Share;
 use t_mesh::t_mesh::Position;
 use t_mesh::t_mesh::Tmesh;
-
-// A map with knots kept, or why there are none.
-fn with_knots(map: Tmesh) -> Generated
-    ensures { λ r. ⌜ r ≡ withKnots millionth map ⌝ }
-{
-    if map.kept {
-        return Generated {
-            outcome: Outcome::Done,
-            map,
-        };
-    }
-    generate_knot_vectors(map)
-}
 
 // Nothing lent.
 fn lend_none(

@@ -13,7 +13,7 @@ use t_mesh::add::Added;
 use t_mesh::t_mesh::Position;
 use t_mesh::t_mesh::Tmesh;
 
-// Whether kept knots are still kept after an insertion.
+// Whether kept knots and their index are still kept after an insertion.
 fn kept_after(kept: bool, answer: InsertAnswer) -> bool
     ensures { λ r. ⌜ r ≡ keptAfter kept answer ⌝ }
 {

@@ -13,6 +13,7 @@ use Rattle.control_point.specs.Told.{Told, float, tells, unless, refusalTold, r
 use Rattle.control_point.specs.declared.refusal.Outcome.{Outcome}
 use Rattle.control_point.specs.declared.refusal.Outcome.the-variants.{Done, Refused as NotBuilt}
 use Rattle.control_point.specs.declared.refusal.Refusal.the-variants.{NoWeight}
+use Rattle.grid_index.specs.Index.{knotsIn}
 use Rattle.ray.specs.declared.knots.PointKnots.{PointKnots}
 use Rattle.t_mesh.specs.Tmesh.{Axis, X, Y, Z, coordinate, isListed}
 use Rattle.t_mesh.specs.declared.t_mesh.Position.{Position}
@@ -45,14 +46,11 @@ onAxis Z value = value .z
 
 -- ---- a point's part
 -- what an element past the end is taken for; no definition looks there
-abbrev pub noKnots : PointKnots
-noKnots = record { s = []; t = [] }
-
 abbrev pub noPosition : Position
 noPosition = record { x = nan; y = nan; z = nan }
 
 abbrev pub knotsOf : Tmesh → ℕ → PointKnots
-knotsOf map n = getD (map .knots) n noKnots
+knotsOf map n = knotsIn (map .knots) n
 
 abbrev pub positionOf : Tmesh → ℕ → Position
 positionOf map n = getD (map .mesh .positions) n noPosition

@@ -1,5 +1,5 @@
 -- Insertion into a map (`add_control_point`). Refused, the map is as it was. Torn, the mesh keeps all that was done, p stands there
--- with its position and is not listed, and the kept knots are kept. Done, p is listed and the kept knots are dropped.
+-- with its position and is not listed, and the kept knots and their index are kept. Done, p is listed and both are dropped.
 use Prim.Native.Nat.{ℕ}
 use mathlib.Core.Bool.{Bool, true, false, cond}
 use lib.Ieee.{Float}
@@ -51,7 +51,7 @@ insertIntoMesh e mesh con d ratio position =
     answeredMesh mesh position (insertPoint e (meshStore mesh) (listedIn (mesh .listed) con) con d ratio)
 
 -- ---- the map
--- whether kept knots are still kept: done, they are dropped
+-- whether kept knots and their index are still kept: done, they are dropped
 abbrev pub keptAfter : Bool → InsertAnswer → Bool
 keptAfter kept (Done opened inferred) = false
 keptAfter kept (Torn opened inferred) = kept
@@ -60,7 +60,7 @@ keptAfter kept (Refused refusal) = kept
 -- after an insertion, by its answer and the store that it left
 abbrev pub afterInsertion : Tmesh → Position → InsertAnswer → Store → Tmesh
 afterInsertion map position answer store =
-    record { mesh = meshAfter (map .mesh) position answer store; kept = keptAfter (map .kept) answer; knots = map .knots }
+    record { mesh = meshAfter (map .mesh) position answer store; kept = keptAfter (map .kept) answer; knots = map .knots; index = map .index }
 
 -- the answer, and the map after it
 abbrev pub answered : Tmesh → Position → Inserted → Added

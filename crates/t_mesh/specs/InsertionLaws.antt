@@ -49,7 +49,7 @@ mesh-placed mesh position points made answer listed result is stands points-are 
 -- a map with the mesh that an insertion left
 abbrev pub addedTo : Tmesh → InsertedMesh → Added
 addedTo map inserted =
-    record { answer = inserted .answer; map = record { mesh = inserted .mesh; kept = keptAfter (map .kept) (inserted .answer); knots = map .knots } }
+    record { answer = inserted .answer; map = record { mesh = inserted .mesh; kept = keptAfter (map .kept) (inserted .answer); knots = map .knots; index = map .index } }
 
 pub added-by-mesh : (e : Float) (map : Tmesh) (con : ℕ) (d : TmeshDirection) (ratio : Float) (position : Position)
     → addedTo map (insertIntoMesh e (map .mesh) con d ratio position) ≡ addControlPoint e map con d ratio position

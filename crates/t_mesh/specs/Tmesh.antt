@@ -1,5 +1,6 @@
 -- The map. A position is three floats. Positions stand beside the points, since nothing but evaluation reads them: nothing of a mesh's
--- shape can depend on them. A point is listed once its insertion is done; the listing's order is that of the numbers.
+-- shape can depend on them. A point is listed once its insertion is done; the listing's order is that of the numbers. One flag says whether
+-- the knots of the listed points, and the index that is built from them, are kept.
 use Prim.Native.Nat.{ℕ}
 use mathlib.Core.Bool.{Bool, true, false}
 use mathlib.Core.List.{List, [], _∷_, _++_}
@@ -10,6 +11,7 @@ use Rattle.control_point.specs.Point.{loosePoint}
 use Rattle.control_point.specs.declared.t_mesh_control_point.Side.{Side}
 use Rattle.control_point.specs.declared.t_mesh_control_point.Side.the-variants.{Link, Border}
 use Rattle.control_point.specs.declared.t_mesh_control_point.TmeshControlPoint.{TmeshControlPoint}
+use Rattle.grid_index.specs.declared.Index.{Index}
 use Rattle.ray.specs.declared.knots.PointKnots.{PointKnots}
 use Rattle.store.specs.declared.store.Store.{Store}
 use Rattle.t_mesh.specs.declared.t_mesh.Mesh.{Mesh}
@@ -32,13 +34,14 @@ meshStore mesh = record { points = mesh .points; made = mesh .made }
 abbrev pub storeOf : Tmesh → Store
 storeOf map = meshStore (map .mesh)
 
--- with another store, the listing, the positions and the knots kept as they are
+-- with another store, the listing, the positions, the knots kept and their index as they are
 abbrev pub withStore : Tmesh → Store → Tmesh
 withStore map store =
     record {
       mesh = record { points = store .points; made = store .made; positions = map .mesh .positions; listed = map .mesh .listed };
       kept = map .kept;
       knots = map .knots;
+      index = map .index;
     }
 
 -- whether a listing has a number, and a map does
@@ -66,14 +69,17 @@ corners weight =
 abbrev pub cornerStore : Float → Store
 cornerStore weight = record { points = corners weight ++ replicate 124 (loosePoint zeroLiteral); made = 4 }
 
--- what stands where there is no point, and where no knots are kept
+-- what stands where there is no point, where no knots are kept, and where no index is
 abbrev pub origin : Position
 origin = record { x = zeroLiteral; y = zeroLiteral; z = zeroLiteral }
 
 abbrev pub blankKnots : PointKnots
 blankKnots = record { s = replicate 5 zeroLiteral; t = replicate 5 zeroLiteral }
 
--- the map of a border weight and four corners: no knots are kept
+abbrev pub blankIndex : Index
+blankIndex = record { first = replicate 256 0; second = replicate 256 0 }
+
+-- the map of a border weight and four corners: no knots and no index are kept
 unfoldable pub newTmesh : Float → Position → Position → Position → Position → Tmesh
 newTmesh weight bottomLeft bottomRight topRight topLeft =
     record {
@@ -85,4 +91,5 @@ newTmesh weight bottomLeft bottomRight topRight topLeft =
       };
       kept = false;
       knots = replicate 128 blankKnots;
+      index = blankIndex;
     }

@@ -4,6 +4,7 @@ ghost use Rattle.t_mesh.specs.Tmesh.{meshStore, withStore, corner, corne
 use control_point::t_mesh_control_point::Side;
 use control_point::t_mesh_control_point::TmeshControlPoint;
 use control_point::t_mesh_control_point::loose_point;
+use grid_index::Index;
 use ray::knots::PointKnots;
 use store::store::Store;
 
@@ -21,11 +22,12 @@ pub struct Mesh {
     pub listed: [bool; 128],
 }
 
-// A mesh, and whether the knots of its listed points are kept. Where they are not, what stands in their place means nothing.
+// A mesh, and whether the knots of its listed points and the index built from them are kept. Where they are not, what stands in their place means nothing.
 pub struct Tmesh {
     pub mesh: Mesh,
     pub kept: bool,
     pub knots: [PointKnots; 128],
+    pub index: Index,
 }
 
 // The store of a mesh, for the calls that take one.
@@ -39,7 +41,7 @@ pub fn store_of(mesh: Mesh) -> Store
     }
 }
 
-// A map with the store that a direct call left; its listing, its positions and its kept knots are as they were.
+// A map with the store that a direct call left; its listing, its positions, its kept knots and their index are as they were.
 pub fn with_store(mut map: Tmesh, store: Store) -> Tmesh
     ensures { λ r. ⌜ r ≡ withStore map store ⌝ }
 {
@@ -169,6 +171,10 @@ impl Tmesh {
             },
             kept: false,
             knots: [blank; 128],
+            index: Index {
+                first: [0; 256],
+                second: [0; 256],
+            },
         }
     }
 }

@@ -6,7 +6,7 @@ use native.Mathlib.Omega.{arith}
 use borrow.Author.Needs.{needs}
 use lib.ListN.{length-map}
 use Rattle.lent_mesh.specs.LentMesh.{rowOf}
-use Rattle.lent_mesh.specs.LentMeshLaws.{StoredTo, stored-none, stored-more}
+use Rattle.values.specs.ValuesLaws.{StoredTo, stored-none, stored-more}
 use Rattle.surface.specs.Evaluation.{knotsOf, positionOf, noPosition}
 use Rattle.lent_surface.specs.LentLaws.{all-lent}
 use Rattle.lent_surface.proofs.lend_all.Statement.{statement}
@@ -15,8 +15,8 @@ use Rattle.lent_surface.proofs.lend_all.Tie as tie
 abbrev Inv-loop : tie.InvT-loop
 Inv-loop across₀ upwards₀ positions₀ listed map places n₀ across upwards positions n =
     (n ≤ 128)
-    × (StoredTo (λ (m : ℕ). knotsOf map m .s) [] n across
-    × (StoredTo (λ (m : ℕ). knotsOf map m .t) [] n upwards × StoredTo (λ (m : ℕ). rowOf (positionOf map m)) (rowOf noPosition) n positions))
+    × (StoredTo (λ (m : ℕ). knotsOf map m .s) [] 128 n across
+    × (StoredTo (λ (m : ℕ). knotsOf map m .t) [] 128 n upwards × StoredTo (λ (m : ℕ). rowOf (positionOf map m)) (rowOf noPosition) 128 n positions))
 
 abbrev μ-loop : tie.MeasureT-loop
 μ-loop across₀ upwards₀ positions₀ listed map places n₀ across upwards positions n = 128 - n
@@ -24,7 +24,7 @@ abbrev μ-loop : tie.MeasureT-loop
 loop-holds : tie.Need-loop-holds Inv-loop μ-loop
 loop-holds c =
     let full = c .before .before .pre in
-    (omega arith, (stored-none _ _ _ (full .0), (stored-none _ _ _ (full .1 .0), stored-none _ _ _ (full .1 .1))))
+    (omega arith, (stored-none _ _ 128 _ (full .0), (stored-none _ _ 128 _ (full .1 .0), stored-none _ _ 128 _ (full .1 .1))))
 
 mul-lend-point : tie.Need-mul-lend-point Inv-loop μ-loop
 mul-lend-point c = search needs
@@ -55,10 +55,10 @@ loop-again c =
     let e = c .lend-point .ensures in (
       omega arith,
       (
-        stored-more (λ (m : ℕ). knotsOf map m .s) [] (k .n) (k .across) _ (omega arith) (e .0) (k .inv .1 .0),
+        stored-more (λ (m : ℕ). knotsOf map m .s) [] 128 (k .n) (k .across) _ (omega arith) (e .0) (k .inv .1 .0),
         (
-          stored-more (λ (m : ℕ). knotsOf map m .t) [] (k .n) (k .upwards) _ (omega arith) (e .1 .0) (k .inv .1 .1 .0),
-          stored-more (λ (m : ℕ). rowOf (positionOf map m)) (rowOf noPosition) (k .n) (k .positions) _ (omega arith) (e .1 .1) (k .inv .1 .1 .1),
+          stored-more (λ (m : ℕ). knotsOf map m .t) [] 128 (k .n) (k .upwards) _ (omega arith) (e .1 .0) (k .inv .1 .1 .0),
+          stored-more (λ (m : ℕ). rowOf (positionOf map m)) (rowOf noPosition) 128 (k .n) (k .positions) _ (omega arith) (e .1 .1) (k .inv .1 .1 .1),
         ),
       ),
     )

@@ -3,8 +3,8 @@ use mathlib.Core.Path.{refl}
 use borrow.Author.Needs.{needs}
 use Rattle.control_point.specs.Small.{millionth}
 use Rattle.surface.specs.EvaluationLaws.{ready-kept, ready-built}
-use Rattle.lent_surface.proofs.with_knots.Statement.{statement}
-use Rattle.lent_surface.proofs.with_knots.Tie as tie
+use Rattle.kept_knots.proofs.with_knots.Statement.{statement}
+use Rattle.kept_knots.proofs.with_knots.Tie as tie
 
 returns : tie.Need-returns
 returns c = ready-kept millionth (c .before .args .map) _ _ (c .if1 .taken) refl refl

@@ -1,0 +1,4 @@
+pub mod Cells
+pub mod Table
+pub mod CellsLaws
+pub mod TableLaws
