@@ -1,9 +1,11 @@
 /*
  * host FILE S T: the gate opening that a map file gives at (S, T).
+ * host FILE CELL: the points of its map that reach a cell, 0 to 255.
  *
  *     rt staticlib gatemap_host
  *     cc -Iinclude -o host examples/host.c target/staticlib/libgatemap_host.a
  *     ./host map.bin 0.5 0.5
+ *     ./host map.bin 136
  *
  * Exit status: 0 done, 1 refused, 2 the command line or the file cannot be read.
  */
@@ -14,6 +16,8 @@
 #include "gatemap_host.h"
 
 enum { DONE, REFUSED, UNUSABLE };
+
+enum { MOST_POINTS = 128, WORD_BITS = 64, WORD_BYTES = 8 };
 
 _Static_assert(sizeof(double) == sizeof(uint64_t), "a double has 64 bits");
 
@@ -31,7 +35,7 @@ static const char *words(uint64_t answer)
     case GATEMAP_HEADING: return "an edit's direction is above 3";
     case GATEMAP_NO_WEIGHT: return "the map has no weight there";
     case GATEMAP_SHORT: return "the buffer is too short";
-    default: return "an answer that the call does not give";
+    default: return "an answer that neither call gives";
     }
 }
 
@@ -42,12 +46,18 @@ static uint64_t bits_of(double x)
     return bits;
 }
 
+static uint64_t word_at(const uint8_t *bytes)
+{
+    uint64_t word = 0;
+    for (int i = 0; i < WORD_BYTES; i++)
+        word = word << 8 | bytes[i];
+    return word;
+}
+
 static double float_at(const uint8_t *bytes)
 {
-    uint64_t bits = 0;
+    uint64_t bits = word_at(bytes);
     double x;
-    for (int i = 0; i < 8; i++)
-        bits = bits << 8 | bytes[i];
     memcpy(&x, &bits, sizeof x);
     return x;
 }
@@ -58,6 +68,15 @@ static int read_number(const char *word, double *number)
     char *end;
     *number = strtod(word, &end);
     return end != word && *end == '\0';
+}
+
+/* Whether a word is the number of a cell and nothing else. */
+static int read_cell(const char *word, uint8_t *cell)
+{
+    char *end;
+    long number = strtol(word, &end, 10);
+    *cell = (uint8_t)number;
+    return end != word && *end == '\0' && 0 <= number && number <= UINT8_MAX;
 }
 
 /* Whether a file's bytes could be read, and how many there are. */
@@ -72,26 +91,52 @@ static int read_file(const char *path, size_t *length)
     return !failed;
 }
 
+static int refused(uint64_t answer)
+{
+    printf("refused %llu: %s\n", (unsigned long long)answer, words(answer));
+    return REFUSED;
+}
+
+static int show_set_point(size_t length, double s, double t)
+{
+    uint8_t value[GATEMAP_VALUE_BYTES];
+    uint64_t answer = gatemap_set_point(file, length, bits_of(s), bits_of(t), value, sizeof value);
+    if (answer != GATEMAP_DONE)
+        return refused(answer);
+    printf("position %.17g %.17g %.17g weight %.17g\n", float_at(value), float_at(value + 8), float_at(value + 16),
+           float_at(value + 24));
+    return DONE;
+}
+
+static int show_cell(size_t length, uint8_t cell)
+{
+    uint8_t found[GATEMAP_CELL_BYTES];
+    uint64_t answer = gatemap_cell(file, length, cell, found, sizeof found);
+    if (answer != GATEMAP_DONE)
+        return refused(answer);
+    printf("points");
+    for (int n = 0; n < MOST_POINTS; n++)
+        if (word_at(found + n / WORD_BITS * WORD_BYTES) >> n % WORD_BITS & 1)
+            printf(" %d", n);
+    printf(" count %d\n", found[2 * WORD_BYTES]);
+    return DONE;
+}
+
 int main(int argc, char **argv)
 {
-    double s, t;
+    double s = 0, t = 0;
+    uint8_t cell = 0;
     size_t length;
-    uint8_t value[GATEMAP_VALUE_BYTES];
 
-    if (argc != 4 || !read_number(argv[2], &s) || !read_number(argv[3], &t)) {
-        fprintf(stderr, "usage: host FILE S T, with S and T as decimal numbers\n");
+    int of_place = argc == 4 && read_number(argv[2], &s) && read_number(argv[3], &t);
+    int of_cell = argc == 3 && read_cell(argv[2], &cell);
+    if (!of_place && !of_cell) {
+        fprintf(stderr, "usage: host FILE S T, with S and T as decimal numbers, or host FILE CELL, with a number from 0 to 255\n");
         return UNUSABLE;
     }
     if (!read_file(argv[1], &length)) {
         perror(argv[1]);
         return UNUSABLE;
     }
-    uint64_t answer = gatemap_set_point(file, length, bits_of(s), bits_of(t), value, sizeof value);
-    if (answer != GATEMAP_DONE) {
-        printf("refused %llu: %s\n", (unsigned long long)answer, words(answer));
-        return REFUSED;
-    }
-    printf("position %.17g %.17g %.17g weight %.17g\n", float_at(value), float_at(value + 8), float_at(value + 16),
-           float_at(value + 24));
-    return DONE;
+    return of_place ? show_set_point(length, s, t) : show_cell(length, cell);
 }

@@ -1,10 +1,11 @@
 /*
- * The gate map's set-point, for a C host.
+ * The gate map, for a C host.
  *
- * One call reads a map file, draws its map, and gives the position and the
- * total weight at (s, t), or says by a number why there is none. It is proved
- * to do so for every file, every s and t and every buffer (crates/gatemap_host);
- * docs/FORMATS.md has the format of a map file.
+ * Two calls read a map file and draw its map. gatemap_set_point gives the
+ * position and the total weight at (s, t); gatemap_cell says which points reach
+ * a cell of the map. Where there is no answer, they say why by a number. Each is
+ * proved to do so for every file, every place or cell and every buffer
+ * (crates/gatemap_host); docs/FORMATS.md has the format of a map file.
  *
  *     uint8_t value[GATEMAP_VALUE_BYTES];
  *     if (gatemap_set_point(file, length, s_bits, t_bits, value, sizeof value) == GATEMAP_DONE)
@@ -13,6 +14,21 @@
  * `rt staticlib gatemap_host` writes the archive, target/staticlib/libgatemap_host.a,
  * for x86-64 Linux. It links with gcc or clang and needs nothing but the C
  * library (memcpy, memset). examples/host.c is a whole program.
+ *
+ * The host sees to this, in both calls:
+ *  - file and out each point to as many bytes as their length says, and the two
+ *    do not overlap. Neither is null, even where its length is 0: nothing is
+ *    then read or written there, but a null pointer is not what was proved.
+ *  - nothing else writes file, and nothing else reads or writes out, during the
+ *    call. A call keeps no state, so calls may run at once in several threads,
+ *    with one file if need be, each with its own buffer.
+ *  - GATEMAP_STACK_BYTES of stack are free. A call allocates nothing else.
+ *  - the processor rounds to nearest and keeps subnormal numbers, as a C program
+ *    starts (a link with -ffast-math may change that).
+ *
+ * A call always returns, and never sets errno. Done, it returns 0 and has written
+ * the first bytes of the buffer, and the rest is untouched. Refused, it returns
+ * the refusal's number and leaves all of the buffer untouched.
  */
 #ifndef GATEMAP_HOST_H
 #define GATEMAP_HOST_H
@@ -25,18 +41,20 @@ extern "C" {
 #endif
 
 enum {
-    /* What a value takes in the buffer. */
+    /* What a value takes in the buffer, and what a cell does. */
     GATEMAP_VALUE_BYTES = 32,
+    GATEMAP_CELL_BYTES = 17,
     /* The longest file that is not refused: 4 + 105 + 34 * 1,000 bytes. */
     GATEMAP_MOST_FILE_BYTES = 34109,
-    /* The stack that a call may take: at most 11,312 bytes were measured (tests/host). */
+    /* The stack that a call may take: at most 11,264 bytes were measured (tests/host). */
     GATEMAP_STACK_BYTES = 24576
 };
 
 /*
- * The answer numbers. The call returns 0, 3, 4, 9 or 12 to 16. The others are
- * answers of single edits, and of other calls on a map: the call passes a
- * refused edit over, and the program `gatemap` prints its number.
+ * The answer numbers. gatemap_set_point returns 0, 3, 4, 9 or 12 to 16, and
+ * gatemap_cell one of these other than 15. The others are answers of single
+ * edits, and of other calls on a map: both calls pass a refused edit over, and
+ * the program `gatemap` prints its number.
  */
 enum gatemap_answer {
     GATEMAP_DONE = 0,
@@ -55,7 +73,7 @@ enum gatemap_answer {
     GATEMAP_VERSION = 13,   /* a file whose version is not 1 */
     GATEMAP_HEADING = 14,   /* a file with an edit whose direction is above 3 */
     GATEMAP_NO_WEIGHT = 15, /* a weight at (s, t) that is not positive and finite */
-    GATEMAP_SHORT = 16      /* a buffer under GATEMAP_VALUE_BYTES */
+    GATEMAP_SHORT = 16      /* a buffer under GATEMAP_VALUE_BYTES or GATEMAP_CELL_BYTES */
 };
 
 /*
@@ -65,33 +83,45 @@ enum gatemap_answer {
  * s_bits, t_bits     the bits of s and t, as 64-bit IEEE doubles
  * out, out_length    the buffer
  *
- * Done, it returns 0 and writes the first 32 bytes of the buffer: x, y, z and
- * the total weight, in this order, each the eight bytes of a double's bits, the
- * most significant first, a NaN as 7ff8000000000000. The rest of the buffer is
- * untouched. The weight is then positive and finite. Where the file's border
- * weight is 0 or more, and its corners and points lie from 0 to 1 on an axis, so
- * does the position on that axis (docs/THEOREMS.md); else it may be anything, a
- * NaN too.
+ * Done, the first 32 bytes of the buffer are x, y, z and the total weight, in
+ * this order, each the eight bytes of a double's bits, the most significant
+ * first, a NaN as 7ff8000000000000. The weight is then positive and finite.
+ * Where the file's border weight is 0 or more, and its corners and points lie
+ * from 0 to 1 on an axis, so does the position on that axis (docs/THEOREMS.md);
+ * else it may be anything, a NaN too.
  *
- * Refused, it returns the number and leaves all of the buffer untouched. Where
- * several refusals hold, the first in this order is returned: 16, 12, 13, 14,
- * the evaluation's (3, 4 or 9), 15.
- *
- * The host sees to this:
- *  - file and out each point to as many bytes as their length says, and the two
- *    do not overlap. Neither is null, even where its length is 0: nothing is
- *    then read or written there, but a null pointer is not what was proved.
- *  - nothing else writes file, and nothing else reads or writes out, during the
- *    call. The call keeps no state, so calls may run at once in several threads,
- *    with one file if need be, each with its own buffer.
- *  - GATEMAP_STACK_BYTES of stack are free. The call allocates nothing else.
- *  - the processor rounds to nearest and keeps subnormal numbers, as a C program
- *    starts (a link with -ffast-math may change that).
- *
- * It always returns, and never sets errno.
+ * Where several refusals hold, the first in this order is returned: a buffer
+ * under 32 bytes 16, the file's 12, 13, 14, the evaluation's 3, 4 or 9, no weight
+ * 15.
  */
 uint64_t gatemap_set_point(const uint8_t *file, size_t file_length, uint64_t s_bits, uint64_t t_bits,
                            uint8_t *out, size_t out_length);
+
+/*
+ * Which points of a map file reach a cell.
+ *
+ * file, file_length  the bytes of the file, whatever they are
+ * cell               16 times its t row plus its s column, both from 0
+ * out, out_length    the buffer
+ *
+ * The cells are a grid of 16 by 16 over 0 to 1 both ways. A cell has its lower
+ * lines and not its upper ones: (s, t), both from 0 to below 1, lies in the cell
+ * 16 * (int)(16 * t) + (int)(16 * s).
+ *
+ * Done, the first 17 bytes of the buffer are the cell's first word, its second
+ * word, eight bytes each, the most significant first, and the count of their
+ * ones, one byte. Points have numbers from 0 as made: the four corners, then
+ * those that edits make. Number n of a listed point is at bit n modulo 64 (bit 0
+ * the least significant), in the first word for n below 64 and in the second from
+ * 64 on. That bit is set exactly where some (s, t) of the cell, as doubles, lies
+ * within the point's outer knots both ways, the first included and the last
+ * excluded.
+ * All other bits are 0; so is that of a torn edit's point, which is not listed.
+ *
+ * Where several refusals hold, the first in this order is returned: a buffer
+ * under 17 bytes 16, the file's 12, 13, 14, the evaluation's 3, 4 or 9.
+ */
+uint64_t gatemap_cell(const uint8_t *file, size_t file_length, uint8_t cell, uint8_t *out, size_t out_length);
 
 #ifdef __cplusplus
 }

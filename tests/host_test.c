@@ -1,17 +1,22 @@
 /*
- * host_test CASES [PROGRAM]: tries the C call, and with PROGRAM the program `gatemap` too, and says in one line how it went.
+ * host_test CASES [PROGRAM]: tries the C calls, and with PROGRAM the program `gatemap` too, and says in one line how it went.
  *
  * The files are document 01's sample, every prefix and every change of one byte of it; samples of 0, 1, 2, 999, 1,000 and 1,001 edits, also with
- * count or length one off; and those of CASES, which is crates/file_replay/data/cases (oracle/README.md has its format).
+ * count or length one off; maps with a line of 124 points on the lower edge; and those of CASES, which is crates/file_replay/data/cases
+ * (oracle/README.md has its format).
  * Every call is made twice, with file and buffer right before memory that cannot be touched and right after such memory, so that one
  * byte read or written too far ends the test; what of the buffer's page is not to be written is looked at after each call.
- * The program is run once on each file, and must end with status 0 and print the file's report and nothing else. The report is the stored text
- * or, of a file made here, the text that document 01 asks for; its last line is held against the call at (0.5, 0.5).
- * The line also says how much stack was touched below the highest frame that makes a call, which is held to what the header says.
+ * A cell's words are held against the stored ones or, of a file made here, against those that the outer knots of its points give; the knots are
+ * worked out here, from document 01. Asked of one place, the two calls must be refused alike, and a place that no point reaches has no weight, unless
+ * the border is NaN.
+ * The program is run once on each file but the lines of points, and must end with status 0 and print the file's report and nothing else. The report
+ * is the stored text or, of a file made here, the text that document 01 asks for; its last line is held against the set-point at (0.5, 0.5).
+ * The line also says how much stack each of the two calls touched, which is held to what the header says; a cell may take no more than a set-point.
  */
 #define _GNU_SOURCE
 #include <errno.h>
 #include <fcntl.h>
+#include <math.h>
 #include <pthread.h>
 #include <spawn.h>
 #include <stdarg.h>
@@ -27,14 +32,23 @@
 enum {
     COUNT_BYTES = 4,
     VERSION_AT = 4,
+    BORDER_AT = 5,
     EDITS_AT = 109,
     EDIT_BYTES = 34,
     RATIO_AT = 2,
     MOST_EDITS = 1000,
+    MOST_POINTS = 128,
+    CORNERS = 4,
+    WORD_BITS = 64,
+    WORD_BYTES = 8,
+    COUNT_AT = 16,
+    LINES = 16,
+    CELLS = 256,
     MOST_CASE_BYTES = 65536,
     MOST_LINE_BYTES = 96,
     MOST_ROOM = 80,
     STACK_BYTES = 16 << 20,
+    FRAMES_BYTES = 1 << 18,
     FILLER = 0xa5
 };
 
@@ -95,17 +109,41 @@ static int all_filler(const uint8_t *from, const uint8_t *to)
     return 1;
 }
 
-/* ---- the call */
+/* ---- the calls */
 
-struct answer {
-    uint64_t number;
-    uint8_t value[GATEMAP_VALUE_BYTES];
+/* What is asked of a map: its set-point at (s, t), or which points reach a cell. */
+struct question {
+    enum { SET_POINT, CELL } of;
+    uint64_t s, t;
+    uint8_t cell;
 };
 
-/* The highest frame from which a call was made. */
-static uintptr_t highest_frame;
+static struct question at_place(uint64_t s, uint64_t t)
+{
+    return (struct question){.of = SET_POINT, .s = s, .t = t};
+}
 
-static struct answer call_at(const uint8_t *bytes, size_t length, uint64_t s, uint64_t t, size_t room, int at_end)
+static struct question at_cell(uint8_t cell)
+{
+    return (struct question){.of = CELL, .cell = cell};
+}
+
+/* What an answer takes in the buffer. */
+static size_t answer_bytes(struct question question)
+{
+    return question.of == CELL ? GATEMAP_CELL_BYTES : GATEMAP_VALUE_BYTES;
+}
+
+/* A call's answer: its number, and what it wrote, with fillers behind. */
+struct answer {
+    uint64_t number;
+    uint8_t bytes[GATEMAP_VALUE_BYTES];
+};
+
+/* Calls are made from one height of the stack, below all frames of this test, so that what is touched below it is a call's alone. */
+static uintptr_t height;
+
+static struct answer call_at(const uint8_t *bytes, size_t length, struct question question, size_t room, int at_end)
 {
     struct answer answer;
     uint8_t *lent = at_end ? file_room.end - length : file_room.start;
@@ -113,26 +151,26 @@ static struct answer call_at(const uint8_t *bytes, size_t length, uint64_t s, ui
     memcpy(lent, bytes, length);
     memset(out_room.start, FILLER, (size_t)(out_room.end - out_room.start));
     uintptr_t frame = (uintptr_t)__builtin_frame_address(0);
-    if (frame > highest_frame)
-        highest_frame = frame;
-    answer.number = gatemap_set_point(lent, length, s, t, out, room);
+    stop_unless(frame > height, "a frame below the height of the calls");
+    *(volatile uint8_t *)__builtin_alloca(frame - height) = FILLER;
+    if (question.of == CELL)
+        answer.number = gatemap_cell(lent, length, question.cell, out, room);
+    else
+        answer.number = gatemap_set_point(lent, length, question.s, question.t, out, room);
     calls++;
-    uint8_t *rest = out;
-    memset(answer.value, FILLER, sizeof answer.value);
-    if (answer.number == GATEMAP_DONE && room >= sizeof answer.value) {
-        memcpy(answer.value, out, sizeof answer.value);
-        rest += sizeof answer.value;
-    }
-    check(all_filler(out_room.start, out) && all_filler(rest, out_room.end), "answer %d touched what it must not",
+    size_t written = answer.number == GATEMAP_DONE && room >= answer_bytes(question) ? answer_bytes(question) : 0;
+    memset(answer.bytes, FILLER, sizeof answer.bytes);
+    memcpy(answer.bytes, out, written);
+    check(all_filler(out_room.start, out) && all_filler(out + written, out_room.end), "answer %d touched what it must not",
           (int)answer.number);
     check(memcmp(lent, bytes, length) == 0, "the file was written");
     return answer;
 }
 
 /* The refusal that the buffer or the file brings by itself, or 0. */
-static uint64_t refusal_of(const uint8_t *bytes, size_t length, size_t room)
+static uint64_t refusal_of(const uint8_t *bytes, size_t length, struct question question, size_t room)
 {
-    if (room < GATEMAP_VALUE_BYTES)
+    if (room < answer_bytes(question))
         return GATEMAP_SHORT;
     if (length < EDITS_AT || length > GATEMAP_MOST_FILE_BYTES || (length - EDITS_AT) % EDIT_BYTES != 0)
         return GATEMAP_LENGTH;
@@ -147,21 +185,22 @@ static uint64_t refusal_of(const uint8_t *bytes, size_t length, size_t room)
     return GATEMAP_DONE;
 }
 
-static int from_evaluation(uint64_t number)
+/* Whether a number may be answered where neither the buffer nor the file is refused. */
+static int from_evaluation(uint64_t number, struct question question)
 {
     return number == GATEMAP_DONE || number == GATEMAP_OPEN_SIDE || number == GATEMAP_BORDER || number == GATEMAP_RING ||
-           number == GATEMAP_NO_WEIGHT;
+           (number == GATEMAP_NO_WEIGHT && question.of == SET_POINT);
 }
 
-static struct answer call(const uint8_t *bytes, size_t length, uint64_t s, uint64_t t, size_t room)
+static struct answer call(const uint8_t *bytes, size_t length, struct question question, size_t room)
 {
-    struct answer answer = call_at(bytes, length, s, t, room, 1);
-    struct answer again = call_at(bytes, length, s, t, room, 0);
-    check(answer.number == again.number && memcmp(answer.value, again.value, sizeof answer.value) == 0,
+    struct answer answer = call_at(bytes, length, question, room, 1);
+    struct answer again = call_at(bytes, length, question, room, 0);
+    check(answer.number == again.number && memcmp(answer.bytes, again.bytes, sizeof answer.bytes) == 0,
           "two calls differ: %d and %d", (int)answer.number, (int)again.number);
-    uint64_t refusal = refusal_of(bytes, length, room);
-    check(refusal != 0 ? answer.number == refusal : from_evaluation(answer.number), "%d where %d is due, %zu bytes, room %zu",
-          (int)answer.number, (int)refusal, length, room);
+    uint64_t refusal = refusal_of(bytes, length, question, room);
+    check(refusal != 0 ? answer.number == refusal : from_evaluation(answer.number, question),
+          "%d where %d is due, %zu bytes, room %zu", (int)answer.number, (int)refusal, length, room);
     return answer;
 }
 
@@ -182,17 +221,28 @@ static size_t pair_at(const uint8_t *bytes)
 static uint64_t number_at(const uint8_t *bytes)
 {
     uint64_t number = 0;
-    for (int i = 0; i < 8; i++)
+    for (int i = 0; i < WORD_BYTES; i++)
         number = number << 8 | bytes[i];
+    return number;
+}
+
+static double float_of(uint64_t bits)
+{
+    double number;
+    memcpy(&number, &bits, sizeof number);
     return number;
 }
 
 static double float_at(const uint8_t *bytes)
 {
-    uint64_t bits = number_at(bytes);
-    double number;
-    memcpy(&number, &bits, sizeof number);
-    return number;
+    return float_of(number_at(bytes));
+}
+
+static uint64_t bits_of(double number)
+{
+    uint64_t bits;
+    memcpy(&bits, &number, sizeof bits);
+    return bits;
 }
 
 /* ---- the program */
@@ -243,10 +293,10 @@ static int prints(const uint8_t *bytes, size_t length, const char *text, size_t 
     return got == text_length && memcmp(out, text, got) == 0;
 }
 
-/* The last line of a report, as the call's answer at (0.5, 0.5) has it. A refused file has no other. */
+/* The last line of a report, as the set-point's answer at (0.5, 0.5) has it. A refused file has no other. */
 static size_t put_last_line(char *line, struct answer answer)
 {
-    const uint8_t *value = answer.value;
+    const uint8_t *value = answer.bytes;
     if (answer.number == GATEMAP_DONE)
         return (size_t)snprintf(line, MOST_LINE_BYTES, "mid %016llx %016llx %016llx %016llx\n", (unsigned long long)number_at(value),
                                 (unsigned long long)number_at(value + 8), (unsigned long long)number_at(value + 16),
@@ -257,19 +307,32 @@ static size_t put_last_line(char *line, struct answer answer)
 
 /* ---- files made here */
 
-/* The square map with border 1.0 and so many edits of ratio 2.0, which are all refused. The one with one edit is document 01's. */
-static size_t sample(uint8_t *file, size_t edits)
+/* The head of a file with so many edits: the square map with a border weight. */
+static uint8_t *put_head(uint8_t *file, uint64_t border, size_t edits)
 {
     static const int corners[12] = {0, 0, 0, 1, 0, 0, 1, 1, 1, 0, 1, 1};
     uint8_t *at = put_number(file, 105 + EDIT_BYTES * edits, COUNT_BYTES);
-    at = put_number(put_number(at, 1, 1), ONE, 8);
+    at = put_number(put_number(at, 1, 1), border, 8);
     for (int i = 0; i < 12; i++)
         at = put_number(at, corners[i] ? ONE : 0, 8);
-    for (size_t k = 0; k < edits; k++) {
-        at = put_number(put_number(put_number(at, 0, 1), 1, 1), TWO, 8);
-        for (int axis = 0; axis < 3; axis++)
-            at = put_number(at, HALF, 8);
-    }
+    return at;
+}
+
+/* An edit to the right of a point. */
+static uint8_t *put_edit(uint8_t *at, int point, uint64_t ratio)
+{
+    at = put_number(put_number(put_number(at, (uint64_t)point, 1), 1, 1), ratio, 8);
+    for (int axis = 0; axis < 3; axis++)
+        at = put_number(at, HALF, 8);
+    return at;
+}
+
+/* The square map with border 1.0 and so many edits of ratio 2.0, which are all refused. The one with one edit is document 01's. */
+static size_t sample(uint8_t *file, size_t edits)
+{
+    uint8_t *at = put_head(file, ONE, edits);
+    for (size_t k = 0; k < edits; k++)
+        at = put_edit(at, 0, TWO);
     return (size_t)(at - file);
 }
 
@@ -295,32 +358,157 @@ static size_t put_first_lines(char *text, const uint8_t *bytes, size_t length)
     return end + (size_t)snprintf(text + end, MOST_LINE_BYTES, "%s", rest);
 }
 
-/* The call's answer at (0.5, 0.5), which the program's report must have too. */
+/* The set-point at (0.5, 0.5), which the program's report must have too. */
 static struct answer in_the_middle(const uint8_t *bytes, size_t length)
 {
     static char text[MOST_CASE_BYTES];
-    struct answer answer = call(bytes, length, HALF, HALF, GATEMAP_VALUE_BYTES);
-    size_t end = refusal_of(bytes, length, GATEMAP_VALUE_BYTES) == GATEMAP_DONE ? put_first_lines(text, bytes, length) : 0;
+    struct question middle = at_place(HALF, HALF);
+    struct answer answer = call(bytes, length, middle, GATEMAP_VALUE_BYTES);
+    size_t end = refusal_of(bytes, length, middle, GATEMAP_VALUE_BYTES) == GATEMAP_DONE ? put_first_lines(text, bytes, length) : 0;
     end += put_last_line(text + end, answer);
     check(prints(bytes, length, text, end), "the program prints of %zu bytes something other than\n%.*s", length, (int)end, text);
     return answer;
 }
 
-static uint8_t file[MOST_CASE_BYTES];
+/* ---- which points reach a cell, by their outer knots */
 
-static void refused_for_length(size_t length, const char *words)
+/* The first and the last of a point's knots one way, and both ways. */
+struct span {
+    double first, last;
+};
+
+struct outer {
+    struct span s, t;
+};
+
+/* Whether a double from a line of the grid on and below the next one lies in a span, first included and last excluded: the least that could does. */
+static int meets(struct span span, int line)
 {
-    check(in_the_middle(file, length).number == GATEMAP_LENGTH, "%zu bytes: %s", length, words);
+    double from = line / (double)LINES, to = (line + 1) / (double)LINES;
+    double least = span.first > from ? span.first : from;
+    return span.first <= least && least < span.last && least < to;
 }
 
-static void every_prefix(void)
+/* What is written of a cell where so many points have these outer knots and are all listed. */
+static void put_cell(uint8_t *out, const struct outer *outer, int listed, uint8_t cell)
+{
+    uint64_t words[2] = {0, 0}, count = 0;
+    for (int n = 0; n < listed; n++)
+        if (meets(outer[n].s, cell % LINES) && meets(outer[n].t, cell / LINES)) {
+            words[n / WORD_BITS] |= (uint64_t)1 << n % WORD_BITS;
+            count++;
+        }
+    put_number(put_number(put_number(out, words[0], WORD_BYTES), words[1], WORD_BYTES), count, 1);
+}
+
+/* Asks for a cell of a file whose listed points have these outer knots. Only the file can be refused. */
+static uint64_t ask_cell(const uint8_t *bytes, size_t length, const struct outer *outer, int listed, uint8_t cell)
+{
+    uint8_t due[GATEMAP_CELL_BYTES];
+    struct answer answer = call(bytes, length, at_cell(cell), GATEMAP_CELL_BYTES);
+    check(answer.number == refusal_of(bytes, length, at_cell(cell), GATEMAP_CELL_BYTES), "cell %d is refused %d", cell, (int)answer.number);
+    put_cell(due, outer, listed, cell);
+    check(answer.number != GATEMAP_DONE || memcmp(answer.bytes, due, sizeof due) == 0, "cell %d: words %llx %llx count %d", cell,
+          (unsigned long long)number_at(answer.bytes), (unsigned long long)number_at(answer.bytes + WORD_BYTES), answer.bytes[COUNT_AT]);
+    return answer.number;
+}
+
+static void every_cell(const uint8_t *bytes, size_t length, const struct outer *outer, int listed)
+{
+    for (int cell = 0; cell < CELLS; cell++)
+        check(ask_cell(bytes, length, outer, listed, (uint8_t)cell) == GATEMAP_DONE, "a file made here is refused");
+}
+
+/* The outer knots of every corner where no edit is done, by the border's weight. */
+static struct outer of_border(double border)
+{
+    struct span span = {-border, 1 + border};
+    return (struct outer){span, span};
+}
+
+/*
+ * How many points are listed of a sample with at most one byte changed, and their outer knots. Where the edit is done or torn, the border is 1.0,
+ * and corner 0 ends at about 1 across and corner 1 starts at about 0: they reach every cell, as with the 2 and the -1 that are given here.
+ */
+static int sample_outer(const uint8_t *bytes, size_t length, struct outer *outer)
+{
+    int listed = CORNERS;
+    for (size_t at = EDITS_AT; at < length; at += EDIT_BYTES) {
+        double ratio = float_at(bytes + at + RATIO_AT);
+        listed += MILLIONTH < ratio && ratio <= 1;
+    }
+    for (int n = 0; n < listed; n++)
+        outer[n] = of_border(float_at(bytes + BORDER_AT));
+    return listed;
+}
+
+/* A cell of a sample with at most one byte changed, another one each time. */
+static uint64_t next_cell(const uint8_t *bytes, size_t length)
+{
+    static uint8_t cell;
+    static struct outer outer[MOST_POINTS];
+    int valid = refusal_of(bytes, length, at_cell(++cell), GATEMAP_CELL_BYTES) == GATEMAP_DONE;
+    return ask_cell(bytes, length, outer, valid ? sample_outer(bytes, length, outer) : 0, cell);
+}
+
+/*
+ * A map of 128 points: 124 edits halve the lower edge again and again, from left to right, and all sums are exact. A point of the edge has for its
+ * outer knots across the second points to its left and right, or else the border's; upwards it has the border's, as the other two corners have.
+ */
+static size_t line_of_points(uint8_t *file, double border, struct outer *outer)
+{
+    uint8_t *at = put_head(file, bits_of(border), MOST_POINTS - CORNERS);
+    int line[MOST_POINTS] = {0, 1}, on_line = 2;
+    double across[MOST_POINTS] = {0, 1};
+    for (int made = CORNERS; made < MOST_POINTS;) {
+        int before[MOST_POINTS], last = on_line - 1;
+        memcpy(before, line, sizeof before);
+        on_line = 0;
+        for (int i = 0; i <= last; i++) {
+            line[on_line++] = before[i];
+            if (i < last && made < MOST_POINTS) {
+                at = put_edit(at, before[i], HALF);
+                across[made] = (across[before[i]] + across[before[i + 1]]) / 2;
+                line[on_line++] = made++;
+            }
+        }
+    }
+    for (int n = 0; n < MOST_POINTS; n++)
+        outer[n] = of_border(border);
+    for (int i = 0; i < on_line; i++) {
+        if (i >= 2)
+            outer[line[i]].s.first = across[line[i - 2]];
+        if (i + 2 < on_line)
+            outer[line[i]].s.last = across[line[i + 2]];
+    }
+    return (size_t)(at - file);
+}
+
+/* ---- the files, one after the other */
+
+/* A call on a file made here, and the number that it answers. */
+typedef uint64_t trial(const uint8_t *bytes, size_t length);
+
+static uint64_t middle(const uint8_t *bytes, size_t length)
+{
+    return in_the_middle(bytes, length).number;
+}
+
+static uint8_t file[MOST_CASE_BYTES];
+
+static void refused_for_length(trial *number_of, size_t length, const char *words)
+{
+    check(number_of(file, length) == GATEMAP_LENGTH, "%zu bytes: %s", length, words);
+}
+
+static void every_prefix(trial *number_of)
 {
     size_t length = sample(file, 1);
     for (size_t prefix = 0; prefix < length; prefix++)
-        refused_for_length(prefix, "a prefix");
+        refused_for_length(number_of, prefix, "a prefix");
 }
 
-static void every_change_of_a_byte(void)
+static void every_change_of_a_byte(trial *number_of)
 {
     size_t length = sample(file, 1);
     for (size_t at = 0; at < length; at++) {
@@ -328,7 +516,7 @@ static void every_change_of_a_byte(void)
         for (int change = 1; change < 256; change++) {
             unsigned long before = wrong;
             file[at] = (uint8_t)(kept ^ change);
-            in_the_middle(file, length);
+            number_of(file, length);
             check(wrong == before, "so it is with byte %zu changed to %d", at, file[at]);
         }
         file[at] = kept;
@@ -339,108 +527,242 @@ static const size_t EDITS[] = {0, 1, 2, MOST_EDITS - 1, MOST_EDITS, MOST_EDITS +
 
 enum { EDITS_TRIED = sizeof EDITS / sizeof EDITS[0] };
 
-static void counts_one_off(void)
+static void counts_one_off(trial *number_of)
 {
     for (int i = 0; i < EDITS_TRIED; i++)
         for (int off = -1; off <= 1; off += 2) {
             size_t length = sample(file, EDITS[i]);
-            refused_for_length(length + (size_t)off, "a length that is one off");
+            refused_for_length(number_of, length + (size_t)off, "a length that is one off");
             put_number(file, length - COUNT_BYTES + (uint64_t)off, COUNT_BYTES);
-            refused_for_length(length, "a count that is one off");
-            refused_for_length(length + (size_t)off, "count and length one off");
+            refused_for_length(number_of, length, "a count that is one off");
+            refused_for_length(number_of, length + (size_t)off, "count and length one off");
         }
 }
 
-static void counts_of_edits(void)
+static void counts_of_edits(trial *number_of)
 {
-    for (int i = 0; i < EDITS_TRIED; i++) {
-        size_t length = sample(file, EDITS[i]);
-        struct answer answer = in_the_middle(file, length);
-        if (EDITS[i] <= MOST_EDITS)
-            check(answer.number == GATEMAP_DONE && memcmp(answer.value, SAMPLE_VALUE, sizeof SAMPLE_VALUE) == 0,
-                  "the value after %zu refused edits", EDITS[i]);
-        else
-            check(answer.number == GATEMAP_LENGTH, "%zu edits", EDITS[i]);
+    for (int i = 0; i < EDITS_TRIED; i++)
+        check(number_of(file, sample(file, EDITS[i])) == (EDITS[i] <= MOST_EDITS ? GATEMAP_DONE : GATEMAP_LENGTH), "%zu edits", EDITS[i]);
+}
+
+/* A buffer of every length: where there is room, what is written is what the longest gets. */
+static void every_room(struct question question)
+{
+    struct answer longest = call(file, sample(file, 1), question, MOST_ROOM);
+    for (size_t room = 0; room <= MOST_ROOM; room++) {
+        size_t length = sample(file, 1);
+        struct answer answer = call(file, length, question, room);
+        check(answer.number == (room < answer_bytes(question) ? GATEMAP_SHORT : GATEMAP_DONE), "a buffer of %zu", room);
+        check(answer.number != GATEMAP_DONE || memcmp(answer.bytes, longest.bytes, answer_bytes(question)) == 0,
+              "what is written to a buffer of %zu", room);
+        file[VERSION_AT] = 2;
+        call(file, length, question, room);
+        call(file, 3, question, room);
     }
 }
 
-static void every_room(void)
+static void files_made_here(trial *number_of, struct question question)
 {
-    for (size_t room = 0; room <= MOST_ROOM; room++) {
-        size_t length = sample(file, 1);
-        struct answer answer = call(file, length, HALF, HALF, room);
-        check(answer.number == (room < GATEMAP_VALUE_BYTES ? GATEMAP_SHORT : GATEMAP_DONE), "a buffer of %zu", room);
-        file[VERSION_AT] = 2;
-        call(file, length, HALF, HALF, room);
-        call(file, 3, HALF, HALF, room);
+    every_prefix(number_of);
+    every_change_of_a_byte(number_of);
+    counts_one_off(number_of);
+    counts_of_edits(number_of);
+    every_room(question);
+}
+
+static void sample_values(void)
+{
+    for (int i = 0; i < EDITS_TRIED && EDITS[i] <= MOST_EDITS; i++) {
+        struct answer answer = call(file, sample(file, EDITS[i]), at_place(HALF, HALF), GATEMAP_VALUE_BYTES);
+        check(answer.number == GATEMAP_DONE && memcmp(answer.bytes, SAMPLE_VALUE, sizeof SAMPLE_VALUE) == 0,
+              "the value after %zu refused edits", EDITS[i]);
+    }
+}
+
+static void sample_cells(void)
+{
+    static struct outer outer[MOST_POINTS];
+    for (int i = 0; i < EDITS_TRIED && EDITS[i] <= MOST_EDITS; i++) {
+        size_t length = sample(file, EDITS[i]);
+        every_cell(file, length, outer, sample_outer(file, length, outer));
+    }
+}
+
+/*
+ * Borders for the line. Upwards all points have the same first and the same last knot: outside the map; at its edges; on the lines 1/16 and 15/16;
+ * the first one double below 1/16, and above; the last one double above 15/16, and below; further within the map; equal; falling; infinite; NaN.
+ */
+static const double BORDERS[] = {1, 0, -0x1p-4, -0x1.fffffffffffffp-5, -0x1.0000000000001p-4, -0x1.ffffffffffffp-5, -0x1.0000000000008p-4,
+                                 -0.25, -0.5, -1, INFINITY, -INFINITY, NAN};
+
+enum { BORDERS_TRIED = sizeof BORDERS / sizeof BORDERS[0] };
+
+static void line_cells(void)
+{
+    static struct outer outer[MOST_POINTS];
+    for (int i = 0; i < BORDERS_TRIED; i++) {
+        size_t length = line_of_points(file, BORDERS[i], outer);
+        every_cell(file, length, outer, MOST_POINTS);
     }
 }
 
 /* ---- stored files */
 
-static void stored_report(const uint8_t *bytes, size_t length, const char *text, size_t text_length)
+struct stored {
+    const uint8_t *bytes, *text, *set_points, *cells;
+    size_t length, text_length;
+    int set_point_count, cell_count;
+};
+
+enum { STORED_SET_POINT_BYTES = 18 + GATEMAP_VALUE_BYTES, STORED_CELL_BYTES = 3 + GATEMAP_CELL_BYTES };
+
+static void stored_report(const struct stored *stored)
 {
     char line[MOST_LINE_BYTES];
-    size_t end = put_last_line(line, call(bytes, length, HALF, HALF, GATEMAP_VALUE_BYTES));
-    check(end <= text_length && memcmp(text + text_length - end, line, end) == 0, "the last line of stored file %lu is not %s", files, line);
-    check(prints(bytes, length, text, text_length), "the text of stored file %lu", files);
+    const char *text = (const char *)stored->text;
+    size_t end = put_last_line(line, call(stored->bytes, stored->length, at_place(HALF, HALF), GATEMAP_VALUE_BYTES));
+    check(end <= stored->text_length && memcmp(text + stored->text_length - end, line, end) == 0,
+          "the last line of stored file %lu is not %s", files, line);
+    check(prints(stored->bytes, stored->length, text, stored->text_length), "the text of stored file %lu", files);
 }
 
-static void stored_call(const uint8_t *bytes, size_t length, const uint8_t *stored)
+/* A call on a stored file: its answer's number and what it writes are stored. */
+static void stored_call(const struct stored *stored, struct question question, const uint8_t *room)
 {
-    struct answer answer = call(bytes, length, number_at(stored), number_at(stored + 8), stored[16]);
-    check(answer.number == stored[17], "stored file %lu: %d where %d is stored", files, (int)answer.number, stored[17]);
-    check(memcmp(answer.value, stored + 18, sizeof answer.value) == 0, "stored file %lu: the value", files);
+    struct answer answer = call(stored->bytes, stored->length, question, room[0]);
+    check(answer.number == room[1], "stored file %lu: %d where %d is stored", files, (int)answer.number, room[1]);
+    check(memcmp(answer.bytes, room + 2, answer_bytes(question)) == 0, "stored file %lu: what is written", files);
 }
 
-static void stored_files(const char *path)
+static void stored_set_points(const struct stored *stored)
+{
+    const uint8_t *at = stored->set_points;
+    for (int left = stored->set_point_count; left > 0; left--, at += STORED_SET_POINT_BYTES)
+        stored_call(stored, at_place(number_at(at), number_at(at + 8)), at + 16);
+    stored_report(stored);
+}
+
+static void stored_cells(const struct stored *stored)
+{
+    const uint8_t *at = stored->cells;
+    for (int left = stored->cell_count; left > 0; left--, at += STORED_CELL_BYTES)
+        stored_call(stored, at_cell(at[0]), at + 1);
+}
+
+static void stored_files(const char *path, void each(const struct stored *))
 {
     static uint8_t rest[MOST_CASE_BYTES];
     uint8_t head[2];
     FILE *cases = fopen(path, "rb");
     stop_unless(cases != NULL, path);
-    while (fread(head, 1, 2, cases) == 2) {
+    for (files = 0; fread(head, 1, 2, cases) == 2; files++) {
+        struct stored stored;
         size_t size = pair_at(head);
         stop_unless(fread(rest, 1, size, cases) == size, "a stored case");
-        size_t length = pair_at(rest);
-        const uint8_t *bytes = rest + 2, *text = bytes + length + 2;
-        size_t text_length = pair_at(text - 2);
-        const uint8_t *stored = text + text_length + 1;
-        for (int left = stored[-1]; left > 0; left--, stored += 18 + GATEMAP_VALUE_BYTES)
-            stored_call(bytes, length, stored);
-        check(stored == rest + size, "stored file %lu: its length", files);
-        stored_report(bytes, length, (const char *)text, text_length);
-        files++;
+        stored.length = pair_at(rest);
+        stored.bytes = rest + 2;
+        stored.text_length = pair_at(stored.bytes + stored.length);
+        stored.text = stored.bytes + stored.length + 2;
+        stored.set_points = stored.text + stored.text_length + 1;
+        stored.set_point_count = stored.set_points[-1];
+        stored.cells = stored.set_points + stored.set_point_count * STORED_SET_POINT_BYTES + 1;
+        stored.cell_count = stored.cells[-1];
+        check(stored.cells + stored.cell_count * STORED_CELL_BYTES == rest + size, "stored file %lu: its length", files);
+        each(&stored);
     }
     fclose(cases);
 }
 
-static void *everything(void *cases)
+/* ---- both calls at one place */
+
+/*
+ * The cell of a place is refused as its set-point is, 15 aside; and where no point reaches the cell, there is no weight. With a NaN border this is not so:
+ * a point with a NaN for its first knot reaches no cell, and may have a weight.
+ */
+static void agree(const uint8_t *bytes, size_t length, double s, double t)
 {
-    every_prefix();
-    every_change_of_a_byte();
-    counts_one_off();
-    counts_of_edits();
-    every_room();
-    stored_files(cases);
+    if (!(0 <= s && s < 1 && 0 <= t && t < 1))
+        return;
+    uint8_t cell = (uint8_t)(LINES * (int)(LINES * t) + (int)(LINES * s));
+    struct answer value = call(bytes, length, at_place(bits_of(s), bits_of(t)), GATEMAP_VALUE_BYTES);
+    struct answer words = call(bytes, length, at_cell(cell), GATEMAP_CELL_BYTES);
+    int has_words = value.number == GATEMAP_DONE || value.number == GATEMAP_NO_WEIGHT;
+    check(words.number == (has_words ? GATEMAP_DONE : value.number), "(%g, %g) is %d and its cell %d", s, t, (int)value.number,
+          (int)words.number);
+    int reached = !has_words || words.bytes[COUNT_AT] > 0 || isnan(float_at(bytes + BORDER_AT));
+    check(reached || value.number == GATEMAP_NO_WEIGHT, "(%g, %g) has a weight, and no point reaches it", s, t);
+}
+
+/* The greatest double below a positive one. */
+static double below(double number)
+{
+    return float_of(bits_of(number) - 1);
+}
+
+/* At the first and at the last place of every cell. */
+static void line_agrees(void)
+{
+    static struct outer outer[MOST_POINTS];
+    for (int i = 0; i < BORDERS_TRIED; i++) {
+        size_t length = line_of_points(file, BORDERS[i], outer);
+        for (int row = 0; row < LINES; row++)
+            for (int column = 0; column < LINES; column++) {
+                agree(file, length, column / (double)LINES, row / (double)LINES);
+                agree(file, length, below((column + 1) / (double)LINES), below((row + 1) / (double)LINES));
+            }
+    }
+}
+
+static void stored_agrees(const struct stored *stored)
+{
+    const uint8_t *at = stored->set_points;
+    agree(stored->bytes, stored->length, 0.5, 0.5);
+    for (int left = stored->set_point_count; left > 0; left--, at += STORED_SET_POINT_BYTES)
+        agree(stored->bytes, stored->length, float_at(at), float_at(at + 8));
+}
+
+/* ---- all calls, and the stack */
+
+static void *set_points(void *cases)
+{
+    files_made_here(middle, at_place(HALF, HALF));
+    sample_values();
+    stored_files(cases, stored_set_points);
     return NULL;
 }
 
-/* Does everything on a stack filled beforehand, and says how much of it was touched below the highest frame that made a call: no call took more. */
-static size_t stack_touched(char *cases)
+static void *cells(void *cases)
+{
+    files_made_here(next_cell, at_cell(0));
+    sample_cells();
+    line_cells();
+    stored_files(cases, stored_cells);
+    return NULL;
+}
+
+static void *both_at_a_place(void *cases)
+{
+    line_agrees();
+    stored_files(cases, stored_agrees);
+    return NULL;
+}
+
+/* Makes calls on a stack filled beforehand, and says how much of it was touched below the height that they are made from: no call took more. */
+static size_t stack_touched(void *make_calls(void *), char *cases)
 {
     pthread_attr_t attributes;
     pthread_t thread;
     uint8_t *stack = mmap(NULL, STACK_BYTES, PROT_READ | PROT_WRITE, MAP_PRIVATE | MAP_ANONYMOUS, -1, 0);
     stop_unless(stack != MAP_FAILED, "mmap");
     memset(stack, FILLER, STACK_BYTES);
+    height = (uintptr_t)stack + STACK_BYTES - FRAMES_BYTES;
     stop_unless(pthread_attr_init(&attributes) == 0 && pthread_attr_setstack(&attributes, stack, STACK_BYTES) == 0 &&
-                    pthread_create(&thread, &attributes, everything, cases) == 0 && pthread_join(thread, NULL) == 0,
+                    pthread_create(&thread, &attributes, make_calls, cases) == 0 && pthread_join(thread, NULL) == 0,
                 "a thread");
     size_t untouched = 0;
     while (untouched < STACK_BYTES && stack[untouched] == FILLER)
         untouched++;
-    return highest_frame - (uintptr_t)(stack + untouched);
+    return height - (uintptr_t)(stack + untouched);
 }
 
 int main(int argc, char **argv)
@@ -452,7 +774,10 @@ int main(int argc, char **argv)
     program = argc == 3 ? argv[2] : NULL;
     file_room = fence(MOST_CASE_BYTES);
     out_room = fence(MOST_ROOM);
-    size_t stack = stack_touched(argv[1]);
-    printf("%lu calls, %lu runs of the program, %lu stored files, %zu bytes of stack: %lu wrong\n", calls, runs, files, stack, wrong);
-    return files == 0 || wrong != 0 || stack > GATEMAP_STACK_BYTES;
+    size_t for_set_points = stack_touched(set_points, argv[1]);
+    size_t for_cells = stack_touched(cells, argv[1]);
+    stack_touched(both_at_a_place, argv[1]);
+    printf("%lu calls, %lu runs of the program, %lu stored files, %zu bytes of stack for a set-point, %zu for a cell: %lu wrong\n",
+           calls, runs, files, for_set_points, for_cells, wrong);
+    return files == 0 || wrong != 0 || for_set_points > GATEMAP_STACK_BYTES || for_cells > for_set_points;
 }

@@ -29,6 +29,13 @@ length-bytes zero number = refl
 length-bytes (suc width) number =
     length-append (bytesOf width (number / 256)) (number % 256 ∷ []) ∙ ap (λ (n : ℕ). n + 1) (length-bytes width (number / 256)) ∙ add-one width
 
+-- a number's bytes, and what is written behind them
+pub written-number : (buffer : List ℕ) (at width number : ℕ) (rest : List ℕ)
+    → written buffer at (bytesOf width number ++ rest) ≡ written (written buffer at (bytesOf width number)) (at + width) rest
+written-number buffer at width number rest =
+    written-append buffer at (bytesOf width number) rest
+    ∙ ap (λ (n : ℕ). written (written buffer at (bytesOf width number)) (at + n) rest) (length-bytes width number)
+
 -- a byte behind them is written before or after them
 pub written-set : (buffer : List ℕ) (at : ℕ) (bytes : List ℕ) (place byte : ℕ) → at + length bytes ≤ place
     → written (set buffer place byte) at bytes ≡ set (written buffer at bytes) place byte

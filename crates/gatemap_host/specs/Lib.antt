@@ -1,2 +1,5 @@
+pub mod CallLaws
 pub mod SetPoint
 pub mod SetPointLaws
+pub mod CellCall
+pub mod CellCallLaws

@@ -1,4 +1,4 @@
--- The call of a C host (`gatemap_set_point`): the file, s and t as bits, and a buffer. Refusals in order: a buffer under 32 bytes 16, the file 12, 13, 14, the evaluation 3, 4, 9, no weight 15.
+-- The C call for a set-point (`gatemap_set_point`): the file, s and t as bits, and a buffer. Refusals in order: a buffer under 32 bytes 16, the file 12, 13, 14, the evaluation 3, 4, 9, no weight 15.
 -- With a value the answer is 0, and the first 32 bytes of the buffer receive position and weight, big-endian, a NaN as 7ff8000000000000; the rest of it, and refused all
 -- of it, is untouched.
 use Prim.Native.Nat.{ℕ}

@@ -1,9 +1,13 @@
-// The call of a C host: the bytes of a map file, s and t as bits, and a buffer that receives the value. include/gatemap_host.h says it in C.
+// The calls of a C host: the bytes of a map file, what is asked of its map, and a buffer that receives the answer. include/gatemap_host.h says them in C.
 ghost use mathlib.Core.Path.{_≡_};
 ghost use lib.ListN.{length};
+ghost use Rattle.gatemap_host.specs.CellCall.{hostCell, hostCellNumber, hostCellBuffer, hostCellTable};
 ghost use Rattle.gatemap_host.specs.SetPoint.{hostAnswer, hostNumber, hostBuffer, hostTable};
+use cell_bytes::write_cell;
+use cells::CellAnswer;
 use control_point::refusal::Refusal;
 use float64::from_bits;
+use map_cell::file_cell;
 use map_set_point::file_set_point;
 use surface::evaluation::EvaluationAnswer;
 use value_bytes::write_value;
@@ -11,7 +15,13 @@ use value_bytes::write_value;
 // A position and its weight, as they are written.
 const VALUE_BYTES: usize = 32;
 
-// What the call finds, for a buffer of a length: a short one is refused before the file is looked at.
+// The words of a cell and the count of their ones, as they are written.
+const CELL_BYTES: usize = 17;
+
+// The number of a call whose answer is written.
+const DONE: u64 = 0;
+
+// What the call for a set-point finds, for a buffer of a length: a short one is refused before the file is looked at.
 fn host_answer(file: &[u8], s: u64, t: u64, room: usize) -> EvaluationAnswer
     ensures { λ r. ⌜ r ≡ hostAnswer (now (file .entry)) s t room ⌝ }
 {
@@ -30,8 +40,33 @@ pub extern "C" fn gatemap_set_point(file: &[u8], s: u64, t: u64, out: &mut [u8])
     match host_answer(file, s, t, out.len()) {
         EvaluationAnswer::Is(value) => {
             write_value(out, value);
-            0
+            DONE
         }
         EvaluationAnswer::Refused(refusal) => refusal.number() as u64,
+    }
+}
+
+// The same of a cell.
+fn host_cell(file: &[u8], cell: u8, room: usize) -> CellAnswer
+    ensures { λ r. ⌜ r ≡ hostCell (now (file .entry)) cell room ⌝ }
+{
+    if room < CELL_BYTES {
+        return CellAnswer::Refused(Refusal::Short);
+    }
+    file_cell(file, cell)
+}
+
+#[no_mangle]
+pub extern "C" fn gatemap_cell(file: &[u8], cell: u8, out: &mut [u8]) -> u64
+    ensures number { λ r. ⌜ r ≡ hostCellNumber (now (file .entry)) cell (now (out .entry)) ⌝ }
+    ensures buffer { λ _. ⌜ now (out .exit) ≡ hostCellBuffer (now (file .entry)) cell (now (out .entry)) ⌝ }
+    ensures told { λ r. ⌜ r ≡ hostCellTable (now (file .entry)) cell (length (now (out .entry))) .number ⌝ }
+{
+    match host_cell(file, cell, out.len()) {
+        CellAnswer::Is(words) => {
+            write_cell(out, words);
+            DONE
+        }
+        CellAnswer::Refused(refusal) => refusal.number() as u64,
     }
 }

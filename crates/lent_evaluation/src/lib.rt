@@ -1,45 +1,13 @@
 // The evaluation of a lent mesh: the knots of each listed point are computed, used and forgotten.
 ghost use mathlib.Core.Path.{_≡_};
-ghost use Prim.Native.Nat.{_<_};
-ghost use Rattle.control_point.specs.Sides.{lentSides};
 ghost use Rattle.lent_mesh.specs.LentMesh.{lentMap};
-ghost use Rattle.lent_points.specs.Lent.{acrossAt, upwardsAt};
-ghost use Rattle.ray.specs.Knots.{knotsAt};
 ghost use Rattle.surface.specs.Evaluation.{subsOf};
 use control_point::refusal::Outcome;
 use evaluation::evaluation::share_of;
+use lent_knots::knots_under;
 use lent_mesh::lent_position;
-use lent_points::across_at;
-use lent_points::upwards_at;
-use ray::knots::KnotsAnswer;
-use ray::knots::knots_at;
 use surface::evaluation::Evaluation;
 use surface::evaluation::EvaluationAnswer;
-
-// The knots of the point under a number, computed anew.
-fn knots_under<'a>(
-    closeness: f64,
-    kinds: &'a [u8; 512],
-    numbers: &'a [u8; 512],
-    intervals: &'a [f64; 512],
-    coordinates: &'a [f64; 256],
-    made: u8,
-    n: u8,
-) -> KnotsAnswer
-    requires { ⌜ n < 128 ⌝ }
-    ensures { λ r. ⌜ r ≡ knotsAt closeness (lentSides (now (kinds .entry)) (now (numbers .entry)) (now (intervals .entry))) made n (acrossAt (now (coordinates .entry)) n) (upwardsAt (now (coordinates .entry)) n) ⌝ }
-{
-    knots_at(
-        closeness,
-        kinds,
-        numbers,
-        intervals,
-        made,
-        n,
-        across_at(coordinates, n),
-        upwards_at(coordinates, n),
-    )
-}
 
 // At (s, t). The first listed point whose knots are refused ends it, whatever was summed before.
 pub fn lent_answer<'a>(

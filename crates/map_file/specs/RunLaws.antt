@@ -33,7 +33,7 @@ pub fresh-read : (bytes : List ℕ) (map : Tmesh) (weight : Float) (bottomLeft b
 fresh-read bytes map weight bottomLeft bottomRight topRight topLeft is w first second third fourth = rw (is, w, first, second, third, fourth)
 
 -- ---- an edit of a map that keeps no knots
-none-after : (answer : InsertAnswer) → keptAfter false answer ≡ false
+pub none-after : (answer : InsertAnswer) → keptAfter false answer ≡ false
 none-after (Done opened inferred) = refl
 none-after (Torn opened inferred) = refl
 none-after (NotInserted refusal) = refl
@@ -42,7 +42,7 @@ module _ (e : Float) (mesh : Mesh) (edit : Edit) where
   edited-map : edited e (unkept mesh) edit .map ≡ unkept (meshEdited e mesh edit .mesh)
   unfolding addControlPoint insertIntoMesh unkept
   edited-map =
-      ap (λ (kept : Bool). record { mesh = meshEdited e mesh edit .mesh; kept = kept; knots = unkept mesh .knots })
+      ap (λ (kept : Bool). record { mesh = meshEdited e mesh edit .mesh; kept = kept; knots = unkept mesh .knots; index = unkept mesh .index })
       (none-after (meshEdited e mesh edit .answer))
 
   edited-answer : edited e (unkept mesh) edit .answer ≡ meshEdited e mesh edit .answer

@@ -2,7 +2,7 @@
 use Prim.Native.Nat.{ℕ, suc, _+_, _*_, _-_, _%_, _≤_, _<_}
 use mathlib.Core.Path.{_≡_, refl, sym, ap, _∙_}
 use mathlib.Core.Bool.{Bool, true, false, cond, _&&_, true≢false}
-use mathlib.Core.List.{List, [], _∷_}
+use mathlib.Core.List.{List}
 use native.Mathlib.Numerals.{add-one}
 use native.Mathlib.Nat.{add-assoc, div-add-mod'}
 use native.Mathlib.Omega.{arith}
@@ -12,10 +12,11 @@ use lib.Seq.{getD-drop}
 use borrow.Author.Tests.{lt-ltb, le-ltb, leb-true, eqb-true}
 use Rattle.big_endian.specs.BigEndian.{byteAt, numberAt}
 use Rattle.big_endian.specs.BigEndianLaws.{number-after}
-use Rattle.control_point.specs.Told.{natural, tells, unless}
+use Rattle.control_point.specs.Told.{Told, unless, refusalTold}
 use Rattle.control_point.specs.declared.refusal.Refusal.{Refusal}
 use Rattle.control_point.specs.declared.refusal.Refusal.the-variants.{Length, Version, Heading}
-use Rattle.map_format.specs.Format.{lengthBytes, versionAt, theVersion, editsAt, editBytes, mostEdits, directionIn, positionAt, editAt, targetOf, editCount, lengthRight, headingsRight, checkedFile, fileTold, fileTable}
+use Rattle.map_format.specs.Format.{lengthBytes, versionAt, theVersion, editsAt, editBytes, mostEdits, directionIn, positionAt, editAt, targetOf, editCount, lengthRight, headingsRight, checkedFile, fileTold, whereValid, fileTable}
+use Rattle.map_format.specs.declared.format.FileCheck.{FileCheck}
 use Rattle.map_format.specs.declared.format.FileCheck.the-variants.{Valid, Refused}
 
 -- ---- what stands after the first bytes stands in all bytes, that many places on
@@ -84,15 +85,19 @@ heading-right count bytes at some right = sym (heading-first count bytes at some
 pub heading-wrong : (count : ℕ) (bytes : List ℕ) (at : ℕ) → 0 < count → 4 ≤ byteAt bytes (at + directionIn) → false ≡ headingsRight count bytes at
 heading-wrong count bytes at some wrong = sym (heading-first count bytes at some ∙ rw (le-ltb _ 4 wrong) refl)
 
--- ---- a file tells what its table says
-pub file-told : (bytes : List ℕ) → fileTold (checkedFile bytes) ≡ fileTable bytes
+-- ---- what takes a file tells what its table says, if of a refused one it tells the refusal
+pub where-valid-told : (bytes : List ℕ) (told : FileCheck → Told) → ((refusal : Refusal) → told (Refused refusal) ≡ refusalTold refusal)
+    → told (checkedFile bytes) ≡ whereValid bytes (told (Valid (editCount bytes)))
 unfolding checkedFile
-file-told bytes = by-tests (lengthRight bytes) (eqb (byteAt bytes versionAt) theVersion) (headingsRight (editCount bytes) bytes editsAt)
+where-valid-told bytes told refused = by-tests (lengthRight bytes) (eqb (byteAt bytes versionAt) theVersion) (headingsRight (editCount bytes) bytes editsAt)
   where
     by-tests : (long version headings : Bool)
-        → fileTold (cond long (cond version (cond headings (Valid (editCount bytes)) (Refused Heading)) (Refused Version)) (Refused Length))
-        ≡ unless 12 long (unless 13 version (unless 14 headings (tells (natural (editCount bytes) ∷ []))))
+        → told (cond long (cond version (cond headings (Valid (editCount bytes)) (Refused Heading)) (Refused Version)) (Refused Length))
+        ≡ unless 12 long (unless 13 version (unless 14 headings (told (Valid (editCount bytes)))))
     by-tests true true true = refl
-    by-tests true true false = refl
-    by-tests true false headings = refl
-    by-tests false version headings = refl
+    by-tests true true false = refused Heading
+    by-tests true false headings = refused Version
+    by-tests false version headings = refused Length
+
+pub file-told : (bytes : List ℕ) → fileTold (checkedFile bytes) ≡ fileTable bytes
+file-told bytes = where-valid-told bytes fileTold (λ refusal. refl)

@@ -1,4 +1,4 @@
-// A position and its weight as 32 bytes, which the C call writes.
+// A position and its weight as 32 bytes, which the C call for a set-point writes.
 ghost use mathlib.Core.Path.{_≡_};
 ghost use Rattle.big_endian.specs.Written.{written};
 ghost use Rattle.value_bytes.specs.Value.{bytesOfValue};

@@ -1,7 +1,9 @@
 -- `gatemap_set_point` meets its contract: the answer found gives the number and the buffer, arm by arm.
-use mathlib.Core.Path.{sym, _∙_}
+use mathlib.Core.Path.{_≡_, sym, _∙_}
 use borrow.Author.Needs.{needs}
-use Rattle.gatemap_host.proofs.Laws.{host-with}
+use denote.Ref.{now}
+use Rattle.gatemap_host.specs.SetPoint.{hostNumber}
+use Rattle.gatemap_host.specs.SetPointLaws.{host-with}
 use Rattle.gatemap_host.proofs.gatemap_set_point.Statement.{statement}
 use Rattle.gatemap_host.proofs.gatemap_set_point.Tie as tie
 
@@ -28,9 +30,11 @@ same-length c = search needs
 
 returns : tie.Need-returns
 returns c =
+    let a = c .before .before .before .before .before .before .before .before .before .before .args in
     let found = sym (c .before .before .before .before .before .before .before .host-answer .ensures) ∙ c .before .before .before .before .before .value .given .1 in
-    let gives = host-with _ _ _ _ _ found in
-    (gives .0, (c .before .before .write-value .ensures ∙ gives .1, gives .2))
+    let gives = host-with (a .file .now) (a .s) (a .t) (now (a .out)) _ found in
+    let number : 0 ≡ hostNumber (a .file .now) (a .s) (a .t) (now (a .out)) = gives .0 in
+    (number, (c .before .before .write-value .ensures ∙ gives .1, gives .2))
 
 returns-2 : tie.Need-returns-2
 returns-2 c =

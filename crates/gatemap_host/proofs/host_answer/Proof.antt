@@ -1,12 +1,12 @@
 -- `host_answer` meets its contract: the length decides between 16 and what the file answers.
 use mathlib.Core.Path.{_∙_}
 use borrow.Author.Needs.{needs}
-use Rattle.gatemap_host.proofs.Laws.{answer-short, answer-of-file}
+use Rattle.gatemap_host.specs.SetPointLaws.{answer-short, answer-of-file}
 use Rattle.gatemap_host.proofs.host_answer.Statement.{statement}
 use Rattle.gatemap_host.proofs.host_answer.Tie as tie
 
 returns : tie.Need-returns
-returns c = answer-short _ _ _ _ (c .if1 .taken)
+returns c = let a = c .before .before .args in answer-short (a .file .now) (a .s) (a .t) (a .room) (c .if1 .taken)
 
 from-bits-requires : tie.Need-from-bits-requires
 from-bits-requires c κs = search needs

@@ -7,8 +7,8 @@ use Rattle.control_point.specs.Sides.{lentSides}
 use Rattle.lent_points.specs.Lent.{acrossAt, upwardsAt}
 use Rattle.ray.specs.Knots.{knotsAt}
 use Rattle.ray.specs.declared.knots.KnotsAnswer.{KnotsAnswer}
-use Rattle.lent_evaluation.proofs.knots_under.Statement.{statement}
-use Rattle.lent_evaluation.proofs.knots_under.Tie as tie
+use Rattle.lent_knots.proofs.knots_under.Statement.{statement}
+use Rattle.lent_knots.proofs.knots_under.Tie as tie
 
 across-at-requires : tie.Need-across-at-requires
 across-at-requires c κs = search needs

@@ -1,0 +1,2 @@
+pub mod FileCell
+pub mod FileCellLaws
