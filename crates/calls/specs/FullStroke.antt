@@ -2,8 +2,8 @@
 -- list of calls on the map made from them, and any axis. If the four corners lie in 0 to 1 on the axis, and so does the position of
 -- every insertion of the list that is answered done, then every evaluation of the list whose answer has a positive and finite total
 -- weight lies in 0 to 1 on the axis, both ends included, as the float that it is.
--- Nothing is asked of the insertions that are refused or torn, of the other axes, of what the evaluations are given, or of the
--- list's length. `le` and `lt` are f64's comparisons, false where either side is a NaN; `T b` says that the test b is true.
+-- Nothing is asked of the insertions that are refused or torn, of the questions, of the other axes, of what the evaluations are given, or
+-- of the list's length. `le` and `lt` are f64's comparisons, false where either side is a NaN; `T b` says that the test b is true.
 use Prim.Native.Nat.{ℕ}
 use mathlib.Core.Path.{_≡_}
 use mathlib.Core.Bool.{false}

@@ -28,7 +28,7 @@ use Rattle.ray.specs.Ray.{Ray, entries, refused}
 use Rattle.ray_entry.specs.declared.entry.Entry.{Entry}
 use Rattle.ray_entry.specs.declared.entry.Entry.the-variants.{Is, Refused as NoEntry}
 use Rattle.ray.specs.declared.knots.PointKnots.{PointKnots}
-use Rattle.surface.specs.Evaluation.{noKnots}
+use Rattle.grid_index.specs.Index.{noKnots}
 
 -- a NaN, or not negative
 abbrev pub NotNegative : Float → Type 0

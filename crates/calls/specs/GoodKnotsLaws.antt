@@ -1,6 +1,6 @@
 -- Each entry of a ray through a good mesh is a NaN or not negative, since it is an interval, a weight, a walk's sum or 0.0; so a point's
 -- knots are counted outward from its coordinate by such steps, and the law of the basis says the rest.
-use Prim.Native.Nat.{ℕ, zero, suc, _+_}
+use Prim.Native.Nat.{ℕ, zero, suc}
 use mathlib.Core.Bool.{Bool}
 use mathlib.Core.List.{List, [], _∷_}
 use lib.Dec.{T}
@@ -12,8 +12,6 @@ use Rattle.basis.specs.Binary64.{knots}
 use Rattle.basis.specs.NonNegativeLaws.{formula-nonnegOrNan, non-negative}
 use Rattle.control_point.specs.Point.{isMade, isBorder, isOpening}
 use Rattle.control_point.specs.Sides.{Sides}
-use Rattle.control_point.specs.declared.refusal.Outcome.{Outcome}
-use Rattle.control_point.specs.declared.refusal.Outcome.the-variants.{Done, Refused}
 use Rattle.control_point.specs.declared.sides.SideAnswer.the-variants.{Is as IsSide}
 use Rattle.control_point.specs.declared.t_mesh_direction.TmeshDirection.{TmeshDirection}
 use Rattle.control_point.specs.declared.t_mesh_direction.TmeshDirection.the-variants.{Up, Right, Down, Left}
@@ -33,13 +31,13 @@ use Rattle.ray_entry.specs.declared.entry.Entry.{Entry}
 use Rattle.ray_entry.specs.declared.entry.Entry.the-variants.{Is, Refused as NoEntry}
 use Rattle.ray_entry.specs.declared.entry.Front.{Front}
 use Rattle.ray.specs.declared.knots.KnotsAnswer.{KnotsAnswer}
-use Rattle.ray.specs.declared.knots.PointKnots.{PointKnots}
-use Rattle.t_mesh.specs.Tmesh.{storeOf, isListed, blankKnots}
+use Rattle.t_mesh.specs.Tmesh.{storeOf, blankKnots}
 use Rattle.t_mesh.specs.declared.t_mesh.Tmesh.{Tmesh}
-use Rattle.knot_vectors.specs.Knots.{AllKnots, all, none, onAll, inRow, withRow, rowsFrom, allKnots}
-use Rattle.surface.specs.Evaluation.{noKnots as noRow}
+use Rattle.knot_vectors.specs.Knots.{allKnots}
+use Rattle.grid_index.specs.Index.{noKnots as noRow}
 use Rattle.mirror.specs.BoolLaws.{cond-case}
 use Rattle.calls.specs.ListLaws.{set-case}
+use Rattle.calls.specs.RowsLaws.{OfRows, all-rows}
 use Rattle.calls.specs.Good.{NotNegative, GoodSide, GoodSides, GoodStore, GoodWalk, GoodEntry, GoodEntries, GoodRay, GoodBasis, GoodKnots, GoodRows}
 use Rattle.calls.specs.GoodLaws.{zero-not-negative, store-sides, walk-sum}
 
@@ -166,31 +164,5 @@ point-knots e store good n =
     five centre below above fit h k u = non-negative u centre (first below) (second below) (first above) (second above) fit (h 0) (k 0)
 
 -- ---- the rows of all listed points
-abbrev pub GoodAll : AllKnots → Type 0
-GoodAll (all rows) = GoodRows rows
-GoodAll (none refusal) = Unit {0}
-
-module _ (e : Float) (map : Tmesh) (good : GoodStore (storeOf map)) where
-  in-row : (outcome : Outcome) (k : PointKnots) (n : ℕ) (rows : List PointKnots) → GoodKnots k → GoodRows rows → GoodAll (inRow outcome k n rows)
-  in-row Done k n rows h g = λ m. set-case GoodKnots rows n m k noRow h (g m)
-  in-row (Refused refusal) k n rows h g = tt
-
-  with-row : (n : ℕ) (rows : List PointKnots) → GoodRows rows → GoodAll (withRow e map n rows)
-  with-row n rows g =
-      cond-case (isListed map n) GoodAll _ _
-      (λ _. in-row (pointKnotVectors e (storeOf map) n .outcome) _ n rows (point-knots e (storeOf map) good n) g)
-      (λ _. g)
-
-  on-all : (so-far : AllKnots) (next : List PointKnots → AllKnots) → GoodAll so-far → ((rows : List PointKnots) → GoodRows rows → GoodAll (next rows))
-      → GoodAll (onAll so-far next)
-  on-all (all rows) next h k = k rows h
-  on-all (none refusal) next h k = tt
-
-  rows-from : (left n : ℕ) (rows : List PointKnots) → GoodRows rows → GoodAll (rowsFrom e map left n rows)
-  unfolding rowsFrom
-  rows-from zero n rows g = g
-  rows-from (suc left) n rows g = on-all (withRow e map n rows) _ (with-row n rows g) (λ filled h. rows-from left (n + 1) filled h)
-
-  pub all-rows : GoodRows (map .knots) → GoodAll (allKnots e map)
-  unfolding allKnots
-  all-rows g = rows-from 128 0 (map .knots) g
+pub good-rows : (e : Float) (map : Tmesh) → GoodStore (storeOf map) → GoodRows (map .knots) → OfRows GoodRows (allKnots e map)
+good-rows e map good = all-rows GoodRows e map (λ rows n h m. set-case GoodKnots rows n m _ noRow (point-knots e (storeOf map) good n) (h m))

@@ -1,6 +1,7 @@
 pub mod Calls
 pub mod FullStroke
 pub mod ListLaws
+pub mod RowsLaws
 pub mod InsertionLaws
 pub mod Good
 pub mod GoodLaws
@@ -13,3 +14,5 @@ pub mod NotEmpty
 pub mod NotEmptyProof
 pub mod Readings
 pub mod ReadingsProof
+pub mod CellReadings
+pub mod CellReadingsProof

@@ -19,7 +19,7 @@ use Rattle.t_mesh.specs.Tmesh.{Axis, X, Y, Z, coordinate, newTmesh}
 use Rattle.t_mesh.specs.Insertion.{addControlPoint}
 use Rattle.knot_vectors.specs.Knots.{rowsFrom, allKnots, generateKnotVectors}
 use Rattle.surface.specs.Evaluation.{onAxis, sumFrom, valueOf, withKnots, subsOf}
-use Rattle.calls.specs.Calls.{Call, insertion, evaluation, Answer, inserted, evaluated, Event, runOf}
+use Rattle.calls.specs.Calls.{Call, insertion, evaluation, question, Answer, inserted, evaluated, questioned, Event, runOf}
 use Rattle.calls.specs.FullStroke.{InUnit, Each, DoneInUnit}
 use Rattle.calls.specs.ExampleValues.{positionAt}
 use Rattle.calls.specs.NotEmpty.{FullRun, FullStrokeTouched, inside, TornRun, TornStands, TornPointPassedOver, NotEmpty}
@@ -28,12 +28,14 @@ use Rattle.calls.specs.NotEmpty.{FullRun, FullStrokeTouched, inside, Tor
 abbrev PlacedInUnit : Axis → Call → Type 0
 PlacedInUnit axis (insertion con d ratio position) = InUnit (coordinate axis position)
 PlacedInUnit axis (evaluation s t) = Unit {0}
+PlacedInUnit axis (question cell) = Unit {0}
 
 abbrev NotDone : Answer → Type 0
 NotDone (inserted (Done opened links)) = ⊥
 NotDone (inserted (Torn opened links)) = Unit {0}
 NotDone (inserted (Refused refusal)) = Unit {0}
 NotDone (evaluated answer) = Unit {0}
+NotDone (questioned answer) = Unit {0}
 
 in-unit-event : (axis : Axis) (event : Event) → PlacedInUnit axis (event .call) → DoneInUnit axis event
 in-unit-event axis event h con d ratio position opened links call answer = subst (PlacedInUnit axis) call h

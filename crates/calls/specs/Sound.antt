@@ -11,7 +11,7 @@ use Rattle.t_mesh.specs.declared.t_mesh.Position.{Position}
 use Rattle.t_mesh.specs.declared.t_mesh.Tmesh.{Tmesh}
 use Rattle.surface.specs.Evaluation.{onAxis}
 use Rattle.surface.specs.declared.evaluation.EvaluationAnswer.the-variants.{Is, Refused}
-use Rattle.calls.specs.Calls.{Answer, inserted, evaluated}
+use Rattle.calls.specs.Calls.{Answer, inserted, evaluated, questioned}
 use Rattle.calls.specs.FullStroke.{InUnit}
 use Rattle.calls.specs.Good.{GoodStore, GoodRows}
 
@@ -32,3 +32,4 @@ abbrev pub AnswerInUnit : Axis → Answer → Type 0
 AnswerInUnit axis (inserted answer) = Unit {0}
 AnswerInUnit axis (evaluated (Is value)) = T (lt 0f (value .weight)) → T (lt (value .weight) (inf false)) → InUnit (onAxis axis value)
 AnswerInUnit axis (evaluated (Refused refusal)) = Unit {0}
+AnswerInUnit axis (questioned answer) = Unit {0}

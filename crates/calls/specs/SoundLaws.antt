@@ -1,4 +1,4 @@
--- `Tmesh::new` makes a sound map, and insertion and evaluation keep it sound; an evaluation of a sound map is a mean of numbers in 0 to 1
+-- `Tmesh::new` makes a sound map, and insertion, evaluation and question keep it sound; an evaluation of a sound map is a mean of numbers in 0 to 1
 -- with weights that are products of two basis functions, so NaN or not negative.
 use Prim.Native.Nat.{ℕ, zero, suc, _+_}
 use mathlib.Core.Path.{_≡_, refl}
@@ -30,16 +30,19 @@ use Rattle.t_mesh.specs.Insertion.{afterInsertion, addControlPoint}
 use Rattle.t_mesh.specs.declared.t_mesh.Position.{Position}
 use Rattle.t_mesh.specs.declared.t_mesh.Tmesh.{Tmesh}
 use Rattle.knot_vectors.specs.Knots.{AllKnots, all, none, allKnots, keeping, generateKnotVectors}
-use Rattle.surface.specs.Evaluation.{noKnots, noPosition, positionOf, knotsOf, weightOf, shareOf, sumFrom, totalWeight, meanOn, valueOf, withKnots, subsOf, evaluatedBy}
+use Rattle.grid_index.specs.Index.{noKnots}
+use Rattle.surface.specs.Evaluation.{noPosition, positionOf, knotsOf, weightOf, shareOf, sumFrom, totalWeight, meanOn, valueOf, withKnots, subsOf, evaluatedBy}
 use Rattle.surface.specs.declared.evaluation.EvaluationAnswer.the-variants.{Is}
 use Rattle.knot_vectors.specs.declared.knots.Generated.{Generated}
+use Rattle.cells.specs.Cells.{cellPoints}
 use Rattle.calls.specs.Calls.{evaluated}
 use Rattle.calls.specs.FullStroke.{InUnit}
 use Rattle.mirror.specs.BoolLaws.{cond-case}
 use Rattle.calls.specs.ListLaws.{replicate-case}
-use Rattle.calls.specs.Good.{NotNegative, GoodSide, GoodPoint, GoodStore, GoodKnots}
+use Rattle.calls.specs.Good.{NotNegative, GoodSide, GoodPoint, GoodStore, GoodKnots, GoodRows}
 use Rattle.calls.specs.GoodLaws.{zero-not-negative, loose-point, point-inserted}
-use Rattle.calls.specs.GoodKnotsLaws.{blank-knots, no-knots, GoodAll, all-rows}
+use Rattle.calls.specs.GoodKnotsLaws.{blank-knots, no-knots, good-rows}
+use Rattle.calls.specs.RowsLaws.{OfRows}
 use Rattle.calls.specs.Sound.{ListedInUnit, Sound, AnswerInUnit}
 
 -- ---- listed positions
@@ -173,12 +176,12 @@ with-knots : (axis : Axis) (e : Float) (map : Tmesh) → Sound axis map → Soun
 unfolding withKnots generateKnotVectors
 with-knots axis e map sound =
     cond-case (map .kept) SoundMap _ _ (λ _. sound)
-    (λ _. kept (allKnots e map) (all-rows e map (sound .mesh) (sound .rows)))
+    (λ _. kept (allKnots e map) (good-rows e map (sound .mesh) (sound .rows)))
   where
     SoundMap : Generated → Type 0
     SoundMap generated = Sound axis (generated .map)
 
-    kept : (rows : AllKnots) → GoodAll rows → Sound axis (keeping map rows .map)
+    kept : (rows : AllKnots) → OfRows GoodRows rows → Sound axis (keeping map rows .map)
     kept (all rows) h = record { mesh = sound .mesh; rows = h; points = sound .points }
     kept (none refusal) h = sound
 
@@ -191,3 +194,8 @@ evaluation-sound axis e map sound s t = by-outcome (withKnots e map .outcome) (w
         → AnswerInUnit axis (evaluated (evaluatedBy outcome map s t .answer)) × Sound axis (evaluatedBy outcome map s t .map)
     by-outcome Built map sound = (value-in-unit axis map sound s t, sound)
     by-outcome (NotBuilt refusal) map sound = (tt, sound)
+
+-- ---- a question
+pub question-sound : (axis : Axis) (e : Float) (map : Tmesh) → Sound axis map → (cell : ℕ) → Sound axis (cellPoints e map cell .map)
+unfolding cellPoints
+question-sound axis e map sound cell = with-knots axis e map sound

@@ -1,4 +1,4 @@
--- Both ends are one definition: the report and the C call cite the same check of the file and the same set-point.
+-- Both ends are one definition: the report and the C call for a set-point cite the same check of the file and the same set-point.
 use Prim.Native.Nat.{ℕ, _≤_}
 use mathlib.Core.Path.{_≡_, sym, ap, _∙_}
 use mathlib.Core.List.{List, _++_}
@@ -20,7 +20,7 @@ use Rattle.value_bytes.specs.Value.{valueBytes}
 use Rattle.gatemap_host.specs.SetPoint.{hostAnswer, bufferAfter}
 use Rattle.file_soundness.specs.Theorems.{EndsAgree, EndsRefuse, halfBits}
 
--- what the C call finds, by the check of the file, in a buffer with room
+-- what the C call for a set-point finds, by the check of the file, in a buffer with room
 found-by : (file : List ℕ) (s t room : ℕ) (check : FileCheck) → checkedFile file ≡ check → 32 ≤ room
     → hostAnswer file s t room ≡ checkedSetPoint millionth file (ofBits binary64 s) (ofBits binary64 t) check
 unfolding hostAnswer fileSetPoint

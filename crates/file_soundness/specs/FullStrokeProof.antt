@@ -1,6 +1,6 @@
 -- The bound for files: a file's edits and one evaluation are a list of calls, to which the bound over lists applies; what the call wrote of its answer is read
 -- back as it was.
-use Prim.Native.Nat.{ℕ, zero, _+_, _≤_, _<_}
+use Prim.Native.Nat.{ℕ, zero, _≤_, _<_}
 use mathlib.Core.Path.{_≡_, refl, sym, ap, _∙_, subst}
 use mathlib.Core.Bool.{Bool, true, false, cond}
 use mathlib.Core.List.{List, [], _∷_, _++_, append-assoc}
@@ -31,11 +31,11 @@ use Rattle.surface.specs.Evaluation.{onAxis, evaluationNumber, valueOf, answerB
 use Rattle.surface.specs.declared.evaluation.Evaluation.{Evaluation}
 use Rattle.surface.specs.declared.evaluation.EvaluationAnswer.{EvaluationAnswer}
 use Rattle.surface.specs.declared.evaluation.EvaluationAnswer.the-variants.{Is, Refused}
-use Rattle.calls.specs.Calls.{Call, insertion, evaluation, evaluated, runOf}
+use Rattle.calls.specs.Calls.{Call, insertion, evaluation, question, Answer, evaluated, runOf}
 use Rattle.calls.specs.FullStroke.{InUnit, Each, DoneInUnit as CallDoneInUnit, EvaluationInUnit}
 use Rattle.calls.specs.FullStrokeProof.{never-past-full-stroke}
 use Rattle.mirror.specs.BoolLaws.{cond-case}
-use Rattle.soundness.specs.MapCalls.{numberOf}
+use Rattle.soundness.specs.MapCalls.{answerTold}
 use Rattle.map_format.specs.Format.{versionAt, theVersion, borderAt, editsAt, editCount, Edit, editsFrom, lengthRight, headingsRight, checkedFile}
 use Rattle.map_file.specs.Run.{cornerOf, freshMap, edited, afterEdits, editNumbers, fileMap, checkedSetPoint, fileSetPoint}
 use Rattle.map_format.specs.declared.format.FileCheck.{FileCheck}
@@ -43,7 +43,7 @@ use Rattle.map_format.specs.declared.format.FileCheck.the-variants.{Valid, Refu
 use Rattle.value_bytes.specs.Value.{bitsOf, bytesOfValue}
 use Rattle.gatemap_host.specs.SetPoint.{hostAnswer, bufferAfter}
 use Rattle.file_soundness.specs.CallsLaws.{callsOf}
-use Rattle.file_soundness.specs.Theorems.{DoneInUnit, placeOf, FileNeverPastFullStroke}
+use Rattle.file_soundness.specs.Theorems.{DoneInUnit, placeOf, mapOf, FileNeverPastFullStroke}
 
 -- ---- the list of calls
 -- the edits, then one evaluation
@@ -53,10 +53,12 @@ withEvaluation edits s t = callsOf edits ++ (evaluation s t ∷ [])
 abbrev isInsertion : Call → Type 0
 isInsertion (insertion con d ratio position) = Unit {0}
 isInsertion (evaluation s t) = ⊥
+isInsertion (question cell) = ⊥
 
 abbrev positionIn : Call → Position
 positionIn (insertion con d ratio position) = position
 positionIn (evaluation s t) = noPosition
+positionIn (question cell) = noPosition
 
 module _ (axis : Axis) (e s t : Float) where
   done-calls : (edits : List Edit) (map : Tmesh) → DoneInUnit axis edits (editNumbers e map edits)
@@ -65,7 +67,7 @@ module _ (axis : Axis) (e s t : Float) where
   done-calls [] map done = ((λ con d ratio position opened links is answered. absurd (subst isInsertion (sym is) tt)), tt)
   done-calls (edit ∷ rest) map done = (
     (λ con d ratio position opened links is answered.
-        subst (λ (own : Position). InUnit (coordinate axis own)) (ap positionIn is) (done .0 (ap numberOf answered))),
+        subst (λ (own : Position). InUnit (coordinate axis own)) (ap positionIn is) (done .0 (ap (λ (answer : Answer). answerTold answer .number) answered))),
     done-calls rest (edited e map edit .map) (done .1),
   )
 
@@ -113,7 +115,7 @@ unfolding subsOf
 value-fits axis e map s t value is = answer-fits axis (withKnots e map .outcome) (withKnots e map .map) s t value is
 
 -- no refusal has the number 0
-numbered : (refusal : Refusal) → refusalNumber refusal ≡ 0 → ⊥
+pub numbered : (refusal : Refusal) → refusalNumber refusal ≡ 0 → ⊥
 numbered Ratio h = omega arith
 numbered Foreign h = omega arith
 numbered OpenSide h = omega arith
@@ -186,11 +188,11 @@ written-back Z value out fit room =
 
 -- ---- the call
 -- the count of a valid file is that of its length
-abbrev OwnCount : List ℕ → FileCheck → Type 0
+abbrev pub OwnCount : List ℕ → FileCheck → Type 0
 OwnCount file (Valid count) = count ≡ editCount file
 OwnCount file (NotValid refusal) = Unit {0}
 
-own-count : (file : List ℕ) → OwnCount file (checkedFile file)
+pub own-count : (file : List ℕ) → OwnCount file (checkedFile file)
 unfolding checkedFile
 own-count file =
     cond-case (lengthRight file) (OwnCount file) _ _
@@ -204,16 +206,13 @@ module _ (file : List ℕ) (axis : Axis) (s t : Float) where
   abbrev edits : List Edit
   edits = editsFrom (editCount file) file editsAt
 
-  abbrev left : Tmesh
-  left = fileMap millionth file (editCount file)
-
   module _
       (border : T (le 0f (floatAt file borderAt)))
       (corners : (k : ℕ) → k < 4 → InUnit (coordinate axis (cornerOf file k)))
       (done : DoneInUnit axis edits (editNumbers millionth (freshMap file) edits))
     where
       -- an evaluation of the map that the edits leave
-      evaluated-in-unit : EvaluationInUnit axis (record { call = evaluation s t; answer = evaluated (subsOf millionth left s t .answer) })
+      evaluated-in-unit : EvaluationInUnit axis (record { call = evaluation s t; answer = evaluated (subsOf millionth (mapOf file) s t .answer) })
       evaluated-in-unit =
           last-call axis millionth s t edits (freshMap file)
           (never-past-full-stroke millionth (floatAt file borderAt) (cornerOf file 0) (cornerOf file 1) (cornerOf file 2) (cornerOf file 3) axis (withEvaluation edits s t)
@@ -227,15 +226,15 @@ module _ (file : List ℕ) (axis : Axis) (s t : Float) where
           }))
 
       -- the set-point of a value
-      in-unit : (value : Evaluation) → asSetPoint (subsOf millionth left s t .answer) ≡ Is value → InUnit (onAxis axis value) × T (fits binary64 (onAxis axis value))
+      in-unit : (value : Evaluation) → asSetPoint (subsOf millionth (mapOf file) s t .answer) ≡ Is value → InUnit (onAxis axis value) × T (fits binary64 (onAxis axis value))
       in-unit value is =
-          let both = set-point-is (subsOf millionth left s t .answer) value is in
+          let both = set-point-is (subsOf millionth (mapOf file) s t .answer) value is in
           let positive = lt zeroLiteral (value .weight) in
           let finite = lt (value .weight) (inf false) in (
             evaluated-in-unit value (ap evaluated (both .0))
                 (subst (λ (zero : Float). T (lt zero (value .weight))) literal-zero (and-l positive finite (both .1)))
                 (and-r positive finite (both .1)),
-            value-fits axis millionth left s t value (both .0),
+            value-fits axis millionth (mapOf file) s t value (both .0),
           )
 
       -- a file that is valid has its own count of edits

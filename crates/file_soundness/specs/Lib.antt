@@ -3,3 +3,4 @@ pub mod CallsLaws
 pub mod EndsProof
 pub mod NumbersProof
 pub mod FullStrokeProof
+pub mod CellProof

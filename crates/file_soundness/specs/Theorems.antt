@@ -1,5 +1,5 @@
 -- Theorems on map files: statements only, with what they speak of. A file is any list of bytes. What the program prints of it is `reportOf`, and what a C host
--- gets is `hostNumber` and `hostBuffer`: the definitions that the contracts of the code cite.
+-- gets is `hostNumber` and `hostBuffer`, and of a cell `hostCellNumber` and `hostCellBuffer`: the definitions that the contracts of the code cite.
 use Prim.Native.Nat.{ℕ, _<_, _≤_}
 use mathlib.Core.Path.{_≡_}
 use mathlib.Core.List.{List, [], _∷_, _++_}
@@ -7,11 +7,12 @@ use lib.Dec.{T}
 use lib.Ieee.{le}
 use lib.ListN.{length}
 use Rattle.float64.specs.Sign.{0f}
-use Rattle.big_endian.specs.BigEndian.{floatAt}
+use Rattle.big_endian.specs.BigEndian.{numberAt, floatAt}
 use Rattle.control_point.specs.Refusal.{refusalNumber}
 use Rattle.control_point.specs.Small.{millionth}
 use Rattle.control_point.specs.declared.refusal.Refusal.{Refusal}
 use Rattle.t_mesh.specs.Tmesh.{Axis, X, Y, Z, coordinate, storeOf}
+use Rattle.t_mesh.specs.declared.t_mesh.Tmesh.{Tmesh}
 use Rattle.census.specs.Census.{countsOf}
 use Rattle.calls.specs.FullStroke.{InUnit}
 use Rattle.soundness.specs.Theorems.{OneOf}
@@ -22,14 +23,18 @@ use Rattle.report_text.specs.Text.{fileWord, newline, refusedText}
 use Rattle.report_lines.specs.Lines.{editLines, countsLine, openLines, midLine}
 use Rattle.report.specs.Report.{reportOf}
 use Rattle.gatemap_host.specs.SetPoint.{hostAnswer, hostNumber, hostBuffer}
+use Rattle.gatemap_host.specs.CellCall.{hostCellNumber, hostCellBuffer}
+use Rattle.grid_index.specs.CellTheorem.{Says}
+use Rattle.grid_index.specs.declared.Cell.{Cell}
+use Rattle.knot_vectors.specs.Knots.{generateKnotVectors}
 
 -- ---- one definition at both ends
 -- the bits of 0.5
 abbrev pub halfBits : ℕ
 halfBits = 0x3fe0_0000_0000_0000
 
--- What the program prints of a valid file is a line for each refused edit, the counts, a line for each opening, and the line `mid` of the
--- C call's answer at (0.5, 0.5), in any buffer that has room.
+-- What the program prints of a valid file is a line for each refused edit, the counts, a line for each opening, and the line `mid` of what the C call for a
+-- set-point answers at (0.5, 0.5), in any buffer that has room.
 abbrev pub EndsAgree : Type 0
 EndsAgree =
     (file : List ℕ) (count room : ℕ)
@@ -40,7 +45,8 @@ EndsAgree =
     ++ (countsLine (countsOf (fileMap millionth file count))
     ++ (openLines (storeOf (fileMap millionth file count)) 512 ++ midLine (hostAnswer file halfBits halfBits room)))
 
--- Of a refused file the program prints `file refused N`, and the C call returns that N at every place and leaves the buffer as it was, where it has room.
+-- Of a refused file the program prints `file refused N`, and the C call for a set-point returns that N at every place and leaves the buffer as it was, where it
+-- has room.
 abbrev pub EndsRefuse : Type 0
 EndsRefuse =
     (file : List ℕ) (refusal : Refusal)
@@ -49,9 +55,13 @@ EndsRefuse =
     × ((s t : ℕ) (out : List ℕ) → 32 ≤ length out → (hostNumber file s t out ≡ refusalNumber refusal) × (hostBuffer file s t out ≡ out))
 
 -- ---- the numbers
--- Whatever it is given, the C call returns 0 or one of the refusals 3, 4, 9 and 12 to 16.
+-- Whatever it is given, the C call for a set-point returns 0 or one of the refusals 3, 4, 9 and 12 to 16.
 abbrev pub NumbersNamed : Type 0
 NumbersNamed = (file : List ℕ) (s t : ℕ) (out : List ℕ) → OneOf (hostNumber file s t out) (0 ∷ (3 ∷ (4 ∷ (9 ∷ (12 ∷ (13 ∷ (14 ∷ (15 ∷ (16 ∷ [])))))))))
+
+-- Whatever it is given, the C call for a cell returns 0 or one of the refusals 3, 4, 9, 12, 13, 14 and 16.
+abbrev pub CellNumbersNamed : Type 0
+CellNumbersNamed = (file : List ℕ) (cell : ℕ) (out : List ℕ) → OneOf (hostCellNumber file cell out) (0 ∷ (3 ∷ (4 ∷ (9 ∷ (12 ∷ (13 ∷ (14 ∷ (16 ∷ []))))))))
 
 -- ---- NEVER PAST FULL STROKE, for files
 -- where a position's float on an axis stands in the buffer
@@ -67,7 +77,7 @@ DoneInUnit axis (edit ∷ rest) [] = Unit {0}
 DoneInUnit axis (edit ∷ rest) (number ∷ numbers) = (number ≡ 0 → InUnit (coordinate axis (edit .position))) × DoneInUnit axis rest numbers
 
 -- Take any file, any s and t, any buffer and any axis. If the border weight is ≥ 0, the four corners lie in 0 to 1 on the axis, and so does the position of
--- each edit that is done, then, where the call answers 0, the float that it wrote for the axis lies in 0 to 1, both ends included.
+-- each edit that is done, then, where the C call for a set-point answers 0, the float that it wrote for the axis lies in 0 to 1, both ends included.
 abbrev pub FileNeverPastFullStroke : Type 0
 FileNeverPastFullStroke =
     (file : List ℕ) (s t : ℕ) (out : List ℕ) (axis : Axis)
@@ -76,3 +86,21 @@ FileNeverPastFullStroke =
     → DoneInUnit axis (editsFrom (editCount file) file editsAt) (fileNumbers millionth file (editCount file))
     → hostNumber file s t out ≡ 0
     → InUnit (floatAt (hostBuffer file s t out) (placeOf axis))
+
+-- ---- WHICH POINTS REACH A CELL, for files
+-- the words of a cell and their count, as they stand in a buffer
+abbrev pub cellIn : List ℕ → Cell
+cellIn bytes = record { first = numberAt 8 bytes 0; second = numberAt 8 bytes 8; count = numberAt 1 bytes 16 }
+
+-- the map that a file's edits leave
+abbrev pub mapOf : List ℕ → Tmesh
+mapOf file = fileMap millionth file (editCount file)
+
+-- Take any file, any cell's byte and any buffer. Where the C call for a cell answers 0, the words and the count that it wrote say which points reach the
+-- cell, by the listing of the map that the file's edits leave and by the knots built of it.
+abbrev pub FileCellSays : Type 0
+FileCellSays =
+    (file : List ℕ) (cell : ℕ) (out : List ℕ)
+    → cell < 256
+    → hostCellNumber file cell out ≡ 0
+    → Says (mapOf file .mesh .listed) (generateKnotVectors millionth (mapOf file) .map .knots) cell (cellIn (hostCellBuffer file cell out))

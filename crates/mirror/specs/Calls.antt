@@ -3,12 +3,10 @@
 use Prim.Native.Nat.{ℕ}
 use mathlib.Core.List.{List, [], _∷_}
 use lib.Ieee.{Float}
-use Rattle.control_point.specs.Told.{outcomeNumber, sideTold}
-use Rattle.navigation.specs.Walk.{walkNumber}
-use Rattle.control_point.specs.declared.sides.SideAnswer.{SideAnswer}
+use Rattle.control_point.specs.Told.{Told, outcomeTold, sideTold}
+use Rattle.navigation.specs.Walk.{walkTold}
 use Rattle.control_point.specs.declared.t_mesh_direction.TmeshDirection.{TmeshDirection}
 use Rattle.store.specs.Store.{makeLoose, connectPoints, removeConnection, removeEdgeCondition, setEdgeConWeight, setKnotCoordinates, navigateUntilCon, readSide, readPoint, pointTold}
-use Rattle.store.specs.declared.store.PointAnswer.{PointAnswer}
 use Rattle.store.specs.declared.store.Store.{Store}
 
 -- a direct call with its arguments: numbers of points, directions, then floats (weight, interval, s and t); the walk's are its start,
@@ -24,13 +22,6 @@ pub data Call : Type 0 where
   read-side : ℕ → TmeshDirection → Call
   read-point : ℕ → Call
 
--- the answer numbers of a side read and of a point read
-abbrev pub sideNumber : SideAnswer → ℕ
-sideNumber answer = sideTold answer .number
-
-abbrev pub pointNumber : PointAnswer → ℕ
-pointNumber answer = pointTold answer .number
-
 -- the store after a call
 abbrev pub callStore : Store → Call → Store
 callStore store (make-loose weight) = makeLoose store weight .store
@@ -43,17 +34,21 @@ callStore store (navigate-until-con start travel watch) = store
 callStore store (read-side n d) = store
 callStore store (read-point n) = store
 
+-- what it tells
+abbrev pub callTold : Store → Call → Told
+callTold store (make-loose weight) = outcomeTold (makeLoose store weight .outcome)
+callTold store (connect first other d interval) = outcomeTold (connectPoints store first other d interval .outcome)
+callTold store (remove-connection n d) = outcomeTold (removeConnection store n d .outcome)
+callTold store (remove-edge-condition n d) = outcomeTold (removeEdgeCondition store n d .outcome)
+callTold store (set-edge-con-weight n d weight) = outcomeTold (setEdgeConWeight store n d weight .outcome)
+callTold store (set-knot-coordinates n s t) = outcomeTold (setKnotCoordinates store n s t .outcome)
+callTold store (navigate-until-con start travel watch) = walkTold (navigateUntilCon store start travel watch)
+callTold store (read-side n d) = sideTold (readSide store n d)
+callTold store (read-point n) = pointTold (readPoint store n)
+
 -- its answer number
 abbrev pub callNumber : Store → Call → ℕ
-callNumber store (make-loose weight) = outcomeNumber (makeLoose store weight .outcome)
-callNumber store (connect first other d interval) = outcomeNumber (connectPoints store first other d interval .outcome)
-callNumber store (remove-connection n d) = outcomeNumber (removeConnection store n d .outcome)
-callNumber store (remove-edge-condition n d) = outcomeNumber (removeEdgeCondition store n d .outcome)
-callNumber store (set-edge-con-weight n d weight) = outcomeNumber (setEdgeConWeight store n d weight .outcome)
-callNumber store (set-knot-coordinates n s t) = outcomeNumber (setKnotCoordinates store n s t .outcome)
-callNumber store (navigate-until-con start travel watch) = walkNumber (navigateUntilCon store start travel watch)
-callNumber store (read-side n d) = sideNumber (readSide store n d)
-callNumber store (read-point n) = pointNumber (readPoint store n)
+callNumber store call = callTold store call .number
 
 -- the store after a list of calls, each on the store that the one before it left
 unfoldable pub runCalls : Store → List Call → Store

@@ -10,13 +10,15 @@ use Rattle.control_point.specs.Refusal.{refusalNumber}
 use Rattle.control_point.specs.declared.refusal.Refusal.{Refusal}
 use Rattle.surface.specs.Evaluation.{subsOf}
 use Rattle.surface.specs.declared.evaluation.EvaluationAnswer.the-variants.{Refused as NoValue}
+use Rattle.cells.specs.Cells.{cellPoints}
+use Rattle.cells.specs.declared.CellAnswer.the-variants.{Refused as NoWords}
 use Rattle.mirror.specs.BoolLaws.{or-case}
 use Rattle.t_mesh.specs.Tmesh.{newTmesh}
 use Rattle.t_mesh.specs.declared.t_mesh.Tmesh.{Tmesh}
 use Rattle.soundness.specs.MapCalls.{MapCall, afterCall, mapAfterAll}
 use Rattle.soundness.specs.FreshLaws.{sound-fresh}
-use Rattle.soundness.specs.MapLaws.{SoundMesh, KnownEvaluation, insertion-places, evaluation-known, sound-call, listing-call}
-use Rattle.soundness.specs.Theorems.{EveryMap, OneOf, EveryMapMirrored, ListedIsMade, ListingGrows, PlacingConnects, EvaluationRefusals}
+use Rattle.soundness.specs.MapLaws.{SoundMesh, KnownEvaluation, KnownQuestion, insertion-places, evaluation-known, question-known, sound-call, listing-call}
+use Rattle.soundness.specs.Theorems.{EveryMap, OneOf, EveryMapMirrored, ListedIsMade, ListingGrows, PlacingConnects, EvaluationRefusals, QuestionRefusals}
 
 sound-list : (e : Float) (calls : List MapCall) (map : Tmesh) → SoundMesh (map .mesh) → SoundMesh (mapAfterAll e map calls .mesh)
 unfolding mapAfterAll
@@ -52,9 +54,16 @@ of-three n h =
     same : (m : ℕ) → eqb n m ≡ true → n ≡ m
     same m a = eqb→eq n m (subst T (sym a) tt)
 
-refused-so : (map : Tmesh) → SoundMesh (map .mesh) → (e s t : Float) (refusal : Refusal) → subsOf e map s t .answer ≡ NoValue refusal
+evaluation-refused : (map : Tmesh) → SoundMesh (map .mesh) → (e s t : Float) (refusal : Refusal) → subsOf e map s t .answer ≡ NoValue refusal
     → OneOf (refusalNumber refusal) (3 ∷ (4 ∷ (9 ∷ [])))
-refused-so map sound e s t refusal is = of-three (refusalNumber refusal) (subst KnownEvaluation is (evaluation-known map sound e s t))
+evaluation-refused map sound e s t refusal is = of-three (refusalNumber refusal) (subst KnownEvaluation is (evaluation-known map sound e s t))
 
 pub evaluation-refusals : EvaluationRefusals
-evaluation-refusals = of-sound _ refused-so
+evaluation-refusals = of-sound _ evaluation-refused
+
+question-refused : (map : Tmesh) → SoundMesh (map .mesh) → (e : Float) (cell : ℕ) (refusal : Refusal) → cellPoints e map cell .answer ≡ NoWords refusal
+    → OneOf (refusalNumber refusal) (3 ∷ (4 ∷ (9 ∷ [])))
+question-refused map sound e cell refusal is = of-three (refusalNumber refusal) (subst KnownQuestion is (question-known map sound e cell))
+
+pub question-refusals : QuestionRefusals
+question-refusals = of-sound _ question-refused

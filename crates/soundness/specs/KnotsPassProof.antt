@@ -31,7 +31,8 @@ use Rattle.t_mesh.specs.declared.t_mesh.Tmesh.{Tmesh}
 use Rattle.knot_vectors.specs.Knots.{AllKnots, all, none, keeping, allKnots, generateKnotVectors}
 use Rattle.knot_vectors.specs.declared.knots.Generated.{Generated}
 use Rattle.surface.specs.Evaluation.{withKnots, subsOf}
-use Rattle.calls.specs.Calls.{Call, insertion, evaluation, mapAfter}
+use Rattle.cells.specs.Cells.{cellPoints}
+use Rattle.calls.specs.Calls.{Call, insertion, evaluation, question, mapAfter}
 use Rattle.calls.specs.Good.{NotNegative, GoodStore, GoodEntries, GoodRay}
 use Rattle.calls.specs.GoodLaws.{store-sides, point-inserted}
 use Rattle.calls.specs.GoodKnotsLaws.{ray-entries}
@@ -115,8 +116,19 @@ point-passes e store good n =
     cast d = ray-entries (storeSides store) (store-sides store good) (store .made) d e n 2
 
 -- ---- every map's mesh is good
+good-ready : (e : Float) (map : Tmesh) → GoodStore (storeOf map) → GoodStore (storeOf (withKnots e map .map))
+unfolding withKnots generateKnotVectors
+good-ready e map good = cond-case (map .kept) GoodMesh _ _ (λ _. good) (λ _. kept (allKnots e map))
+  where
+    GoodMesh : Generated → Type 0
+    GoodMesh generated = GoodStore (storeOf (generated .map))
+
+    kept : (rows : AllKnots) → GoodStore (storeOf (keeping map rows .map))
+    kept (all rows) = good
+    kept (none refusal) = good
+
 good-call : (e : Float) (map : Tmesh) → GoodStore (storeOf map) → (call : Call) → GoodStore (storeOf (mapAfter e map call))
-unfolding addControlPoint subsOf withKnots generateKnotVectors
+unfolding addControlPoint subsOf cellPoints
 good-call e map good (insertion con d ratio position) =
     by-answer (insertPoint e (storeOf map) (isListed map con) con d ratio .answer)
     (insertPoint e (storeOf map) (isListed map con) con d ratio .store)
@@ -126,14 +138,8 @@ good-call e map good (insertion con d ratio position) =
     by-answer (Done opened links) store h = h
     by-answer (Torn opened links) store h = h
     by-answer (Refused refusal) store h = good
-good-call e map good (evaluation s t) = cond-case (map .kept) GoodMesh _ _ (λ _. good) (λ _. kept (allKnots e map))
-  where
-    GoodMesh : Generated → Type 0
-    GoodMesh generated = GoodStore (storeOf (generated .map))
-
-    kept : (rows : AllKnots) → GoodStore (storeOf (keeping map rows .map))
-    kept (all rows) = good
-    kept (none refusal) = good
+good-call e map good (evaluation s t) = good-ready e map good
+good-call e map good (question cell) = good-ready e map good
 
 good-list : (e : Float) (calls : List Call) (map : Tmesh) → GoodStore (storeOf map) → GoodStore (storeOf (mapAfterAll e map (entries calls)))
 unfolding mapAfterAll entries

@@ -18,3 +18,8 @@ pub mod OnlyDoneDropsProof
 pub mod RejoinedIsSixProof
 pub mod KnotsPass
 pub mod KnotsPassProof
+pub mod KeptLaws
+pub mod IndexTheorem
+pub mod IndexProof
+pub mod Alike
+pub mod AlikeProof

@@ -1,27 +1,28 @@
--- A list of calls on one map: insertions and evaluations, buildings of the knots, the calls on its store that only look at it (the knots of one
+-- A list of calls on one map: insertions, evaluations and questions of cells, buildings of the knots, the calls on its store that only look at it (the knots of one
 -- point, a ray), and the direct calls on that store, a point made alone among them; in any order, with any arguments, whatever they answer. A
--- direct call leaves the listing, the positions and the kept knots as they are. Lending a map is none of them: it leaves the map that an
+-- direct call leaves the listing, the positions, the kept knots and their index as they are. Lending a map is none of them: it leaves the map that an
 -- evaluation leaves (the theorem `LendingIsSubs` of lent_surface).
 use Prim.Native.Nat.{ℕ}
 use mathlib.Core.Bool.{Bool, true, false, _&&_}
 use mathlib.Core.List.{List, [], _∷_}
 use lib.Ieee.{Float}
 use Rattle.control_point.specs.Point.{isMade}
-use Rattle.control_point.specs.Told.{outcomeNumber}
+use Rattle.control_point.specs.Told.{Told, outcomeTold}
 use Rattle.control_point.specs.declared.t_mesh_direction.TmeshDirection.{TmeshDirection}
 use Rattle.store.specs.declared.store.Store.{Store}
-use Rattle.mirror.specs.Calls.{Call as Direct, make-loose, connect, remove-connection, remove-edge-condition, set-edge-con-weight, set-knot-coordinates, navigate-until-con, read-side, read-point, callStore, callNumber}
-use Rattle.insertion.specs.Insert.{answerNumber}
-use Rattle.ray.specs.Knots.{pointKnotVectors}
-use Rattle.ray.specs.Ray.{castRay}
+use Rattle.mirror.specs.Calls.{Call as Direct, make-loose, connect, remove-connection, remove-edge-condition, set-edge-con-weight, set-knot-coordinates, navigate-until-con, read-side, read-point, callStore, callTold}
+use Rattle.insertion.specs.Insert.{insertTold}
+use Rattle.ray.specs.Knots.{pointKnotVectors, knotsTold}
+use Rattle.ray.specs.Ray.{castRay, castTold}
 use Rattle.t_mesh.specs.Insertion.{isDone}
 use Rattle.t_mesh.specs.Tmesh.{storeOf, withStore}
 use Rattle.t_mesh.specs.declared.t_mesh.Tmesh.{Tmesh}
 use Rattle.knot_vectors.specs.Knots.{generateKnotVectors}
-use Rattle.surface.specs.Evaluation.{evaluationNumber}
-use Rattle.calls.specs.Calls.{Call, Answer, inserted, evaluated, answerTo, mapAfter}
+use Rattle.cells.specs.Cells.{cellTold}
+use Rattle.surface.specs.Evaluation.{evaluationTold}
+use Rattle.calls.specs.Calls.{Call, Answer, inserted, evaluated, questioned, answerTo, mapAfter}
 
--- an insertion or an evaluation; the building of all knots; the knots of a point; a ray from a point into a buffer; a direct call
+-- an insertion, an evaluation or a question; the building of all knots; the knots of a point; a ray from a point into a buffer; a direct call
 pub data MapCall : Type 0 where
   entry : Call → MapCall
   generate-knot-vectors : MapCall
@@ -42,7 +43,7 @@ unfoldable pub mapAfterAll : Float → Tmesh → List MapCall → Tmesh
 mapAfterAll e map [] = map
 mapAfterAll e map (call ∷ rest) = mapAfterAll e (afterCall e map call) rest
 
--- a list of insertions and evaluations alone, and one of direct calls alone
+-- a list of insertions, evaluations and questions alone, and one of direct calls alone
 unfoldable pub entries : List Call → List MapCall
 entries [] = []
 entries (call ∷ rest) = entry call ∷ entries rest
@@ -52,23 +53,29 @@ directs [] = []
 directs (call ∷ rest) = direct call ∷ directs rest
 
 -- ---- answers
--- the number of an answer
-abbrev pub numberOf : Answer → ℕ
-numberOf (inserted answer) = answerNumber answer
-numberOf (evaluated answer) = evaluationNumber answer
+-- what an answer tells
+abbrev pub answerTold : Answer → Told
+answerTold (inserted answer) = insertTold answer
+answerTold (evaluated answer) = evaluationTold answer
+answerTold (questioned answer) = cellTold answer
+
+-- what a call tells
+abbrev pub toldTo : Float → Tmesh → MapCall → Told
+toldTo e map (entry call) = answerTold (answerTo e map call)
+toldTo e map generate-knot-vectors = outcomeTold (generateKnotVectors e map .outcome)
+toldTo e map (point-knot-vectors n) = knotsTold (pointKnotVectors e (storeOf map) n)
+toldTo e map (cast-ray n d buffer) = castTold (castRay e (storeOf map) n d buffer)
+toldTo e map (direct call) = callTold (storeOf map) call
 
 -- the number that a call answers
 abbrev pub numberTo : Float → Tmesh → MapCall → ℕ
-numberTo e map (entry call) = numberOf (answerTo e map call)
-numberTo e map generate-knot-vectors = outcomeNumber (generateKnotVectors e map .outcome)
-numberTo e map (point-knot-vectors n) = outcomeNumber (pointKnotVectors e (storeOf map) n .outcome)
-numberTo e map (cast-ray n d buffer) = outcomeNumber (castRay e (storeOf map) n d buffer .0)
-numberTo e map (direct call) = callNumber (storeOf map) call
+numberTo e map call = toldTo e map call .number
 
 -- whether an answer is that of an insertion done, and whether a call is such an insertion
 abbrev pub listsPoint : Answer → Bool
 listsPoint (inserted answer) = isDone answer
 listsPoint (evaluated answer) = false
+listsPoint (questioned answer) = false
 
 abbrev pub addsPoint : Float → Tmesh → MapCall → Bool
 addsPoint e map (entry call) = listsPoint (answerTo e map call)

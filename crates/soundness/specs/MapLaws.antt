@@ -8,7 +8,7 @@ use borrow.Author.Tests.{eqb-true, eqb-false}
 use lib.Dec.{eqb}
 use lib.Ieee.{Float}
 use lib.ListN.{length, getD, set, length-set}
-use lib.Seq.{getD-set-same, getD-set-other}
+use lib.Seq.{getD-set-same, getD-set-other, ext-getD}
 use Rattle.control_point.specs.declared.refusal.Outcome.{Outcome}
 use Rattle.control_point.specs.declared.refusal.Outcome.the-variants.{Done, Refused}
 use Rattle.control_point.specs.declared.t_mesh_direction.TmeshDirection.{TmeshDirection}
@@ -32,7 +32,12 @@ use Rattle.surface.specs.declared.evaluation.Evaluation.{Evaluation}
 use Rattle.surface.specs.declared.evaluation.EvaluationAnswer.{EvaluationAnswer}
 use Rattle.surface.specs.declared.evaluation.EvaluationAnswer.the-variants.{Is, Refused as NoValue}
 use Rattle.knot_vectors.specs.declared.knots.Generated.{Generated}
-use Rattle.calls.specs.Calls.{insertion, evaluation}
+use Rattle.cells.specs.Cells.{cellAnswerBy, cellPoints}
+use Rattle.cells.specs.declared.CellAnswer.{CellAnswer}
+use Rattle.cells.specs.declared.CellAnswer.the-variants.{Is as Words, Refused as NoWords}
+use Rattle.grid_index.specs.Index.{cellOf}
+use Rattle.grid_index.specs.declared.Cell.{Cell}
+use Rattle.calls.specs.Calls.{insertion, evaluation, question}
 use Rattle.mirror.specs.EveryListMirroredProof.{sound-call as sound-direct}
 use Rattle.soundness.specs.DirectLaws.{call-grows}
 use Rattle.soundness.specs.MapCalls.{MapCall, entry, generate-knot-vectors, point-knot-vectors, cast-ray, direct, afterCall, addsPoint}
@@ -51,6 +56,11 @@ pub record SoundMesh (mesh : Mesh) : Type 0 where
 abbrev pub KnownEvaluation : EvaluationAnswer → Type 0
 KnownEvaluation (Is value) = Unit {0}
 KnownEvaluation (NoValue refusal) = Met refusal
+
+-- a question likewise
+abbrev pub KnownQuestion : CellAnswer → Type 0
+KnownQuestion (Words words) = Unit {0}
+KnownQuestion (NoWords refusal) = Met refusal
 
 -- all knots built, or refused so
 abbrev KnownAll : AllKnots → Type 0
@@ -106,6 +116,13 @@ module _ (map : Tmesh) (mesh-sound : SoundMesh (map .mesh)) where
   listing-after position (Torn opened inferred) store grown n = listing-placed false (grown refl .roomy) n
   listing-after position (NotAdded refusal) store grown n = refl
 
+  -- torn, it is as it was
+  pub listing-torn : (position : Position) (opened inferred : ℕ) (store : Store) → Grown (storeOf map) store
+      → afterInsertion map position (Torn opened inferred) store .mesh .listed ≡ map .mesh .listed
+  listing-torn position opened inferred store grown =
+      ext-getD false (set (map .mesh .listed) (storeOf map .made) false) (map .mesh .listed) (length-set (map .mesh .listed) (storeOf map .made) false)
+      (λ n _. listing-after position (Torn opened inferred) store (λ _. grown) n)
+
   sound-after : (position : Position) (answer : InsertAnswer) (store : Store) → (isRefused answer ≡ false → Grown (storeOf map) store)
       → SoundMesh (afterInsertion map position answer store .mesh)
   sound-after position (Added opened inferred) store grown = sound-placed true position store (grown refl)
@@ -119,6 +136,11 @@ module _ (map : Tmesh) (mesh-sound : SoundMesh (map .mesh)) where
     result-inserts : Inserts e (storeOf map) con d ratio result
     unfolding result
     result-inserts = inserts e (storeOf map) (mesh-sound .sound) con d ratio (isListed map con) (mesh-sound .listed-made con)
+
+    pub insertion-grown : isRefused (insertPoint e (storeOf map) (isListed map con) con d ratio .answer) ≡ false
+        → Grown (storeOf map) (insertPoint e (storeOf map) (isListed map con) con d ratio .store)
+    unfolding result
+    insertion-grown = result-inserts .grown
 
     module _ (position : Position) where
       pub insertion-known : KnownAnswer (addControlPoint e map con d ratio position .answer)
@@ -145,7 +167,7 @@ module _ (map : Tmesh) (mesh-sound : SoundMesh (map .mesh)) where
       unfolding addControlPoint result
       insertion-lists = listing-after position (result .answer) (result .store) (result-inserts .grown)
 
-  -- ---- an evaluation
+  -- ---- an evaluation and a question
   module _ (e : Float) where
     known-row : (outcome : Outcome) (knots : PointKnots) (n : ℕ) (rows : List PointKnots) → MetOutcome outcome → KnownAll (inRow outcome knots n rows)
     known-row Done knots n rows known = tt
@@ -188,23 +210,31 @@ module _ (map : Tmesh) (mesh-sound : SoundMesh (map .mesh)) where
     unfolding withKnots
     keeps = cond-case (map .kept) Keeps _ _ (λ k. (tt, refl)) (λ k. generates)
 
+    pub ready-mesh : withKnots e map .map .mesh ≡ map .mesh
+    ready-mesh = keeps .1
+
     known-answer : (outcome : Outcome) (value : Evaluation) → MetOutcome outcome → KnownEvaluation (answerBy outcome value)
     known-answer Done value known = tt
     known-answer (Refused refusal) value known = known
 
-    module _ (s t : Float) where
-      pub evaluation-known : KnownEvaluation (subsOf e map s t .answer)
-      unfolding subsOf
-      evaluation-known = known-answer (withKnots e map .outcome) (valueOf (withKnots e map .map) s t) (keeps .0)
+    pub evaluation-known : (s t : Float) → KnownEvaluation (subsOf e map s t .answer)
+    unfolding subsOf
+    evaluation-known s t = known-answer (withKnots e map .outcome) (valueOf (withKnots e map .map) s t) (keeps .0)
 
-      evaluation-mesh : subsOf e map s t .map .mesh ≡ map .mesh
-      unfolding subsOf
-      evaluation-mesh = keeps .1
+    known-words : (outcome : Outcome) (words : Cell) → MetOutcome outcome → KnownQuestion (cellAnswerBy outcome words)
+    known-words Done words known = tt
+    known-words (Refused refusal) words known = known
+
+    pub question-known : (cell : ℕ) → KnownQuestion (cellPoints e map cell .answer)
+    unfolding cellPoints
+    question-known cell = known-words (withKnots e map .outcome) (cellOf (withKnots e map .map .index) cell) (keeps .0)
 
   -- ---- any call
   pub sound-call : (e : Float) (call : MapCall) → SoundMesh (afterCall e map call .mesh)
+  unfolding subsOf cellPoints
   sound-call e (entry (insertion con d ratio position)) = insertion-sound e con d ratio position
-  sound-call e (entry (evaluation s t)) = subst SoundMesh (sym (evaluation-mesh e s t)) mesh-sound
+  sound-call e (entry (evaluation s t)) = subst SoundMesh (sym (ready-mesh e)) mesh-sound
+  sound-call e (entry (question cell)) = subst SoundMesh (sym (ready-mesh e)) mesh-sound
   sound-call e generate-knot-vectors = subst SoundMesh (sym (generates e .1)) mesh-sound
   sound-call e (point-knot-vectors n) = mesh-sound
   sound-call e (cast-ray n d buffer) = mesh-sound
@@ -217,8 +247,10 @@ module _ (map : Tmesh) (mesh-sound : SoundMesh (map .mesh)) where
 
   pub listing-call : (e : Float) (call : MapCall) (n : ℕ)
       → isListed (afterCall e map call) n ≡ ((addsPoint e map call && eqb n (storeOf map .made)) || isListed map n)
+  unfolding subsOf cellPoints
   listing-call e (entry (insertion con d ratio position)) n = insertion-lists e con d ratio position n
-  listing-call e (entry (evaluation s t)) n = ap (λ (mesh : Mesh). getD (mesh .listed) n false) (evaluation-mesh e s t)
+  listing-call e (entry (evaluation s t)) n = ap (λ (mesh : Mesh). getD (mesh .listed) n false) (ready-mesh e)
+  listing-call e (entry (question cell)) n = ap (λ (mesh : Mesh). getD (mesh .listed) n false) (ready-mesh e)
   listing-call e generate-knot-vectors n = ap (λ (mesh : Mesh). getD (mesh .listed) n false) (generates e .1)
   listing-call e (point-knot-vectors m) n = refl
   listing-call e (cast-ray m d buffer) n = refl

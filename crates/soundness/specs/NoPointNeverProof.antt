@@ -2,13 +2,14 @@
 use Prim.Native.Nat.{ℕ}
 use mathlib.Core.Path.{_≡_, refl, ap, _∙_}
 use mathlib.Core.Bool.{Bool, true, false, cond, not, _&&_}
+use mathlib.Core.List.{_++_}
 use lib.Dec.{ltb, eqb}
 use lib.Ieee.{Float}
 use lib.ListN.{length}
 use Rattle.control_point.specs.Connect.{connectable}
 use Rattle.control_point.specs.Point.{sideOf, isBorder, isMade}
 use Rattle.control_point.specs.PointLaws.{isMade-made, isMade-room, made-isMade}
-use Rattle.control_point.specs.Told.{outcomeNumber}
+use Rattle.control_point.specs.Told.{tells, refusedOr, outcomeNumber, sideTold}
 use Rattle.control_point.specs.declared.refusal.Outcome.{Outcome}
 use Rattle.control_point.specs.declared.refusal.Outcome.the-variants.{Done, Refused}
 use Rattle.control_point.specs.declared.t_mesh_direction.TmeshDirection.{TmeshDirection}
@@ -17,7 +18,7 @@ use Rattle.control_point.specs.declared.t_mesh_control_point.Side.the-variants.
 use Rattle.navigation.specs.Walk.{walkNumber, walkOf}
 use Rattle.navigation.specs.declared.walk.Walk.{Walk}
 use Rattle.navigation.specs.declared.walk.Walk.the-variants.{Reached, Refused as NoWalk}
-use Rattle.store.specs.Store.{storeSides, storePoint, linked, settled, opened, weighted, allBorders, makeLoose, connectPoints, removeConnection, removeEdgeCondition, setEdgeConWeight, setKnotCoordinates}
+use Rattle.store.specs.Store.{storeSides, storePoint, linked, settled, opened, weighted, allBorders, makeLoose, connectPoints, removeConnection, removeEdgeCondition, setEdgeConWeight, setKnotCoordinates, readSide, readPoint, pointTold}
 use Rattle.store.specs.StoreLaws.{side-read}
 use Rattle.store.specs.declared.store.Changed.{Changed}
 use Rattle.store.specs.declared.store.Store.{Store}
@@ -27,8 +28,9 @@ use Rattle.mirror.specs.Mirror.{Sound}
 use Rattle.insertion.specs.Insert.{answerNumber}
 use Rattle.insertion.specs.declared.insertion.InsertAnswer.{InsertAnswer}
 use Rattle.insertion.specs.declared.insertion.InsertAnswer.the-variants.{Done as Added, Torn, Refused as NotAdded}
-use Rattle.ray.specs.Knots.{pointKnotVectors}
-use Rattle.ray.specs.Ray.{Ray, entries, refused, rayOf, castOf}
+use Rattle.ray.specs.Knots.{pointKnotVectors, knotsTold}
+use Rattle.ray.specs.Ray.{Ray, entries, refused, rayOf, castOf, floats, castTold}
+use Rattle.ray.specs.declared.knots.KnotsAnswer.{KnotsAnswer}
 use Rattle.t_mesh.specs.Insertion.{addControlPoint}
 use Rattle.t_mesh.specs.Tmesh.{storeOf}
 use Rattle.t_mesh.specs.declared.t_mesh.Tmesh.{Tmesh}
@@ -36,13 +38,16 @@ use Rattle.knot_vectors.specs.Knots.{generateKnotVectors}
 use Rattle.surface.specs.Evaluation.{evaluationNumber, subsOf}
 use Rattle.surface.specs.declared.evaluation.EvaluationAnswer.{EvaluationAnswer}
 use Rattle.surface.specs.declared.evaluation.EvaluationAnswer.the-variants.{Is, Refused as NoValue}
-use Rattle.calls.specs.Calls.{insertion, evaluation}
+use Rattle.cells.specs.Cells.{cellNumber, cellPoints}
+use Rattle.cells.specs.declared.CellAnswer.{CellAnswer}
+use Rattle.cells.specs.declared.CellAnswer.the-variants.{Is as Words, Refused as NoWords}
+use Rattle.calls.specs.Calls.{insertion, evaluation, question}
 use Rattle.soundness.specs.EveryMapProof.{of-sound}
 use Rattle.soundness.specs.InsertionLaws.{KnownAnswer}
 use Rattle.soundness.specs.KnownLaws.{MetOutcome, KnownOutcome, KnownWalk, met-known, known-walk, known-connectable}
 use Rattle.soundness.specs.KnownRayLaws.{KnownRay, known-ray, known-knots}
 use Rattle.soundness.specs.MapCalls.{MapCall, entry, generate-knot-vectors, point-knot-vectors, cast-ray, direct, numberTo, givenMade, pointsMade}
-use Rattle.soundness.specs.MapLaws.{SoundMesh, KnownEvaluation, insertion-known, insertion-seeks, generation-known, evaluation-known}
+use Rattle.soundness.specs.MapLaws.{SoundMesh, KnownEvaluation, KnownQuestion, insertion-known, insertion-seeks, generation-known, evaluation-known, question-known}
 use Rattle.soundness.specs.Theorems.{MeetsPoints, NoPointNever}
 
 -- ---- answers that are not 11
@@ -54,6 +59,10 @@ answer-not (NotAdded refusal) known = known
 evaluation-not : (answer : EvaluationAnswer) → KnownEvaluation answer → eqb (evaluationNumber answer) 11 ≡ false
 evaluation-not (Is value) known = refl
 evaluation-not (NoValue refusal) known = met-known refusal known
+
+question-not : (answer : CellAnswer) → KnownQuestion answer → eqb (cellNumber answer) 11 ≡ false
+question-not (Words words) known = refl
+question-not (NoWords refusal) known = met-known refusal known
 
 outcome-not : (outcome : Outcome) → MetOutcome outcome → eqb (outcomeNumber outcome) 11 ≡ false
 outcome-not Done known = refl
@@ -67,7 +76,14 @@ walk-not : (made : ℕ) (walk : Walk) → KnownWalk made walk → eqb (walkNumbe
 walk-not made (Reached n sum moves) known = refl
 walk-not made (NoWalk refusal) known = met-known refusal known
 
-ray-not : (ray : Ray) (n : ℕ) → KnownRay ray → eqb (outcomeNumber (castOf ray n .0)) 11 ≡ false
+knots-not : (answer : KnotsAnswer) → MetOutcome (answer .outcome) → eqb (knotsTold answer .number) 11 ≡ false
+knots-not answer known = by-outcome (answer .outcome) known
+  where
+    by-outcome : (outcome : Outcome) → MetOutcome outcome → eqb (refusedOr outcome (tells (floats (answer .knots .s ++ answer .knots .t))) .number) 11 ≡ false
+    by-outcome Done known = refl
+    by-outcome (Refused refusal) known = met-known refusal known
+
+ray-not : (ray : Ray) (n : ℕ) → KnownRay ray → eqb (castTold (castOf ray n) .number) 11 ≡ false
 ray-not (entries values) n known = refl
 ray-not (refused refusal) n known = met-known refusal known
 
@@ -125,23 +141,23 @@ module _ (store : Store) (sound : Sound store) where
   walk-unless n travel watch false h = rw h
 
   ray-unless : (e : Float) (n : ℕ) (d : TmeshDirection) (count : ℕ) (b : Bool) → isMade (store .made) n ≡ b
-      → Unless b (outcomeNumber (castOf (rayOf e (storeSides store) (store .made) n d count) count .0))
+      → Unless b (castTold (castOf (rayOf e (storeSides store) (store .made) n d count) count) .number)
   unfolding rayOf
   ray-unless e n d count true h =
       ray-not (rayOf e (storeSides store) (store .made) n d count) count
       (known-ray e (storeSides store) (store .made) (sound .fits) (sound .mirrored) d n (isMade-made (store .made) n h) count)
   ray-unless e n d count false h = rw h
 
-  knots-unless : (e : Float) (n : ℕ) (b : Bool) → isMade (store .made) n ≡ b → Unless b (outcomeNumber (pointKnotVectors e store n .outcome))
+  knots-unless : (e : Float) (n : ℕ) (b : Bool) → isMade (store .made) n ≡ b → Unless b (knotsTold (pointKnotVectors e store n) .number)
   unfolding pointKnotVectors
-  knots-unless e n true h = outcome-not (pointKnotVectors e store n .outcome) (known-knots e store sound n (isMade-made (store .made) n h))
+  knots-unless e n true h = knots-not (pointKnotVectors e store n) (known-knots e store sound n (isMade-made (store .made) n h))
   knots-unless e n false h = rw h
 
-  side-unless : (n : ℕ) (d : TmeshDirection) (b : Bool) → isMade (store .made) n ≡ b → Unless b (callNumber store (read-side n d))
+  side-unless : (n : ℕ) (d : TmeshDirection) (b : Bool) → isMade (store .made) n ≡ b → Unless b (sideTold (readSide store n d) .number)
   side-unless n d true h = rw h
   side-unless n d false h = rw h
 
-  point-unless : (n : ℕ) (b : Bool) → isMade (store .made) n ≡ b → Unless b (callNumber store (read-point n))
+  point-unless : (n : ℕ) (b : Bool) → isMade (store .made) n ≡ b → Unless b (pointTold (readPoint store n) .number)
   point-unless n true h = rw h
   point-unless n false h = rw h
 
@@ -170,6 +186,7 @@ unless-unmade : (map : Tmesh) → SoundMesh (map .mesh) → (e : Float) (call : 
 unless-unmade map sound e (entry (insertion con d ratio position)) =
     answer-not (addControlPoint e map con d ratio position .answer) (insertion-known map sound e con d ratio position)
 unless-unmade map sound e (entry (evaluation s t)) = evaluation-not (subsOf e map s t .answer) (evaluation-known map sound e s t)
+unless-unmade map sound e (entry (question cell)) = question-not (cellPoints e map cell .answer) (question-known map sound e cell)
 unless-unmade map sound e generate-knot-vectors = outcome-not (generateKnotVectors e map .outcome) (generation-known map sound e)
 unless-unmade map sound e (point-knot-vectors n) = knots-unless (storeOf map) (sound .sound) e n (isMade (storeOf map .made) n) refl
 unless-unmade map sound e (cast-ray n d buffer) = ray-unless (storeOf map) (sound .sound) e n d (length buffer) (isMade (storeOf map .made) n) refl

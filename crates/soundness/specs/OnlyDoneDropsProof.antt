@@ -1,6 +1,7 @@
--- Only an insertion done drops the kept knots: every other call is defined so.
+-- Only an insertion done drops the kept knots and their index: every other call is defined so.
 use mathlib.Core.Path.{_≡_, refl}
 use mathlib.Core.Bool.{Bool, true, false, true≢false}
+use lib.Ieee.{Float}
 use Rattle.insertion.specs.Insert.{insertPoint}
 use Rattle.insertion.specs.declared.insertion.InsertAnswer.{InsertAnswer}
 use Rattle.insertion.specs.declared.insertion.InsertAnswer.the-variants.{Done as Added, Torn, Refused}
@@ -10,7 +11,8 @@ use Rattle.surface.specs.Evaluation.{withKnots, subsOf}
 use Rattle.t_mesh.specs.Insertion.{isDone, keptAfter, addControlPoint}
 use Rattle.t_mesh.specs.Tmesh.{storeOf, isListed}
 use Rattle.t_mesh.specs.declared.t_mesh.Tmesh.{Tmesh}
-use Rattle.calls.specs.Calls.{insertion, evaluation}
+use Rattle.cells.specs.Cells.{cellPoints}
+use Rattle.calls.specs.Calls.{insertion, evaluation, question}
 use Rattle.mirror.specs.BoolLaws.{both-ways, cond-case}
 use Rattle.soundness.specs.MapCalls.{entry, generate-knot-vectors, point-knot-vectors, cast-ray, direct}
 use Rattle.soundness.specs.Theorems.{OnlyDoneDrops}
@@ -28,15 +30,20 @@ kept-built map (none refusal) k = k
 
 -- kept, and the same
 abbrev Keeps : Tmesh → Generated → Type 0
-Keeps map generated = (generated .map .kept ≡ true) × (generated .map .knots ≡ map .knots)
+Keeps map generated = (generated .map .kept ≡ true) × ((generated .map .knots ≡ map .knots) × (generated .map .index ≡ map .index))
+
+-- with knots kept
+keeps : (e : Float) (map : Tmesh) → map .kept ≡ true → Keeps map (withKnots e map)
+unfolding withKnots
+keeps e map k = cond-case (map .kept) (Keeps map) _ _ (λ _. (k, (refl, refl))) (λ dropped. both-ways (map .kept) k dropped)
 
 pub only-done-drops : OnlyDoneDrops
-unfolding addControlPoint subsOf withKnots generateKnotVectors
+unfolding addControlPoint subsOf cellPoints generateKnotVectors
 only-done-drops e map (entry (insertion con d ratio position)) k done =
-    (kept-after (map .kept) (insertPoint e (storeOf map) (isListed map con) con d ratio .answer) k done, λ other. refl)
-only-done-drops e map (entry (evaluation s t)) k done =
-    let keeps = cond-case (map .kept) (Keeps map) _ _ (λ _. (k, refl)) (λ dropped. both-ways (map .kept) k dropped) in (keeps .0, λ other. keeps .1)
+    (kept-after (map .kept) (insertPoint e (storeOf map) (isListed map con) con d ratio .answer) k done, λ other. (refl, refl))
+only-done-drops e map (entry (evaluation s t)) k done = (keeps e map k .0, λ other. keeps e map k .1)
+only-done-drops e map (entry (question cell)) k done = (keeps e map k .0, λ other. keeps e map k .1)
 only-done-drops e map generate-knot-vectors k done = (kept-built map (allKnots e map) k, λ other. absurd (other refl))
-only-done-drops e map (point-knot-vectors n) k done = (k, λ other. refl)
-only-done-drops e map (cast-ray n d buffer) k done = (k, λ other. refl)
-only-done-drops e map (direct call) k done = (k, λ other. refl)
+only-done-drops e map (point-knot-vectors n) k done = (k, λ other. (refl, refl))
+only-done-drops e map (cast-ray n d buffer) k done = (k, λ other. (refl, refl))
+only-done-drops e map (direct call) k done = (k, λ other. (refl, refl))

@@ -1,5 +1,6 @@
 -- Refused, a call leaves the map as it was: each is defined so.
 use mathlib.Core.Path.{_≡_, refl, ap, _∙_}
+use lib.Ieee.{Float}
 use Rattle.control_point.specs.Told.{outcomeNumber}
 use Rattle.control_point.specs.declared.refusal.Outcome.{Outcome}
 use Rattle.control_point.specs.declared.refusal.Outcome.the-variants.{Done, Refused}
@@ -17,7 +18,10 @@ use Rattle.t_mesh.specs.Insertion.{afterInsertion, addControlPoint}
 use Rattle.t_mesh.specs.Tmesh.{storeOf, withStore, isListed}
 use Rattle.t_mesh.specs.declared.t_mesh.Position.{Position}
 use Rattle.t_mesh.specs.declared.t_mesh.Tmesh.{Tmesh}
-use Rattle.calls.specs.Calls.{insertion, evaluation}
+use Rattle.cells.specs.Cells.{cellNumber, cellAnswerBy, cellPoints}
+use Rattle.grid_index.specs.Index.{cellOf}
+use Rattle.grid_index.specs.declared.Cell.{Cell}
+use Rattle.calls.specs.Calls.{insertion, evaluation, question}
 use Rattle.soundness.specs.MapCalls.{entry, generate-knot-vectors, point-knot-vectors, cast-ray, direct}
 use Rattle.soundness.specs.Theorems.{RefusedKeepsMap}
 
@@ -36,18 +40,28 @@ keeps-built : (map : Tmesh) (rows : AllKnots) → Keeps map (keeping map rows)
 keeps-built map (all rows) done = absurd (done refl)
 keeps-built map (none refusal) done = refl
 
--- an evaluation answers the number of its building
+-- with knots kept or built
+keeps : (e : Float) (map : Tmesh) → Keeps map (withKnots e map)
+unfolding withKnots generateKnotVectors
+keeps e map = cond-case (map .kept) (Keeps map) _ _ (λ _ _. refl) (λ _. keeps-built map (allKnots e map))
+
+-- an evaluation and a question answer the number of their building
 number-by : (outcome : Outcome) (value : Evaluation) → evaluationNumber (answerBy outcome value) ≡ outcomeNumber outcome
 number-by Done value = refl
 number-by (Refused refusal) value = refl
 
+words-by : (outcome : Outcome) (words : Cell) → cellNumber (cellAnswerBy outcome words) ≡ outcomeNumber outcome
+words-by Done words = refl
+words-by (Refused refusal) words = refl
+
 pub refused-keeps-map : RefusedKeepsMap
-unfolding addControlPoint subsOf withKnots generateKnotVectors
+unfolding addControlPoint subsOf cellPoints generateKnotVectors
 refused-keeps-map e map (entry (insertion con d ratio position)) done torn =
     let result = insertPoint e (storeOf map) (isListed map con) con d ratio in by-answer map position (result .answer) (result .store) done torn
 refused-keeps-map e map (entry (evaluation s t)) done torn =
-    cond-case (map .kept) (Keeps map) _ _ (λ _ _. refl) (λ _. keeps-built map (allKnots e map))
-    (λ built. done (number-by (withKnots e map .outcome) (valueOf (withKnots e map .map) s t) ∙ built))
+    keeps e map (λ built. done (number-by (withKnots e map .outcome) (valueOf (withKnots e map .map) s t) ∙ built))
+refused-keeps-map e map (entry (question cell)) done torn =
+    keeps e map (λ built. done (words-by (withKnots e map .outcome) (cellOf (withKnots e map .map .index) cell) ∙ built))
 refused-keeps-map e map generate-knot-vectors done torn = keeps-built map (allKnots e map) done
 refused-keeps-map e map (point-knot-vectors n) done torn = refl
 refused-keeps-map e map (cast-ray n d buffer) done torn = refl

@@ -1,5 +1,5 @@
--- Theorems on lists of calls on a map: statements only, with what they speak of. The lists are every list of insertions, evaluations,
--- buildings of knots, rays and direct calls on a fresh map of any border weight and corners, with any closeness and any arguments, calls
+-- Theorems on lists of calls on a map: statements only, with what they speak of. The lists are every list of insertions, evaluations, questions
+-- of cells, buildings of knots, rays and direct calls on a fresh map of any border weight and corners, with any closeness and any arguments, calls
 -- refused or torn among them. Of the maps that they leave is said that links are mirrored and how they are counted, what is listed, that no
 -- connect of an insertion fails, and where 11 is answered; the call that is spoken of may have a closeness other than the list's.
 use Prim.Native.Nat.{ℕ, _<_, _+_, _*_}
@@ -36,6 +36,8 @@ use Rattle.t_mesh.specs.declared.t_mesh.Position.{Position}
 use Rattle.t_mesh.specs.declared.t_mesh.Tmesh.{Tmesh}
 use Rattle.surface.specs.Evaluation.{subsOf}
 use Rattle.surface.specs.declared.evaluation.EvaluationAnswer.the-variants.{Refused as NoValue}
+use Rattle.cells.specs.Cells.{cellPoints}
+use Rattle.cells.specs.declared.CellAnswer.the-variants.{Refused as NoWords}
 use Rattle.census.specs.Census.{countBelow, hasLink, countsOf}
 use Rattle.soundness.specs.MapCalls.{MapCall, generate-knot-vectors, direct, afterCall, mapAfterAll, directs, addsPoint, numberTo, pointsMade}
 
@@ -51,8 +53,8 @@ abbrev pub EveryMapMirrored : Type 0
 EveryMapMirrored = EveryMap (λ map. Sound (storeOf map))
 
 -- ---- direct calls
--- On every map: a list of direct calls leaves the map with the store that the same list leaves of the map's store. The listing, the positions
--- and the kept knots are as they were.
+-- On every map: a list of direct calls leaves the map with the store that the same list leaves of the map's store. The listing, the positions,
+-- the kept knots and their index are as they were.
 abbrev pub DirectCallsOnStore : Type 0
 DirectCallsOnStore =
     (e : Float) (map : Tmesh) (calls : List Direct) → mapAfterAll e map (directs calls) ≡ withStore map (runCalls (storeOf map) calls)
@@ -82,20 +84,21 @@ ListingGrows =
     → isListed (afterCall e map call) n ≡ ((addsPoint e map call && eqb n (storeOf map .made)) || isListed map n))
 
 -- ---- refusals
--- On every map: a call that is refused by any number but 8, torn, leaves the map as it was, the kept knots too.
+-- On every map: a call that is refused by any number but 8, torn, leaves the map as it was, the kept knots and their index too.
 abbrev pub RefusedKeepsMap : Type 0
 RefusedKeepsMap =
     (e : Float) (map : Tmesh) (call : MapCall) → (numberTo e map call ≡ 0 → ⊥) → (numberTo e map call ≡ 8 → ⊥) → afterCall e map call ≡ map
 
--- ---- the kept knots
--- On every map: only an insertion done drops the kept knots. Every other call, refused or not, leaves knots kept, and they are those kept
--- before unless it is the building of all knots.
+-- ---- the kept knots and their index
+-- On every map: only an insertion done drops the kept knots and their index. Every other call, refused or not, leaves both kept, and they are
+-- those kept before unless it is the building of all knots.
 abbrev pub OnlyDoneDrops : Type 0
 OnlyDoneDrops =
     (e : Float) (map : Tmesh) (call : MapCall)
     → map .kept ≡ true
     → addsPoint e map call ≡ false
-    → (afterCall e map call .kept ≡ true) × ((call ≡ generate-knot-vectors → ⊥) → afterCall e map call .knots ≡ map .knots)
+    → (afterCall e map call .kept ≡ true)
+    × ((call ≡ generate-knot-vectors → ⊥) → (afterCall e map call .knots ≡ map .knots) × (afterCall e map call .index ≡ map .index))
 
 -- ---- the connects of an insertion
 -- a side of p that joins another point does so by a connect that is done
@@ -156,7 +159,7 @@ pub record Seeking (e : Float) (store : Store) (con : ℕ) (d : TmeshDirection) 
       ≡ Failed NoPoint → ⊥
 
 -- where 11 is met on a map: a call answers it where a point that it is given was never made, and nowhere else, so that an insertion, an
--- evaluation and the building of all knots never do, nor a walk, a ray or the knots of a made point; and no search of an insertion fails by it
+-- evaluation, a question and the building of all knots never do, nor a walk, a ray or the knots of a made point; and no search of an insertion fails by it
 pub record MeetsPoints (map : Tmesh) : Type 0 where
   pub answers : (e : Float) (call : MapCall) → eqb (numberTo e map call) 11 ≡ not (pointsMade map call)
   pub seeks : (e : Float) (con : ℕ) (d : TmeshDirection) (ratio : Float) (position : Position)
@@ -167,7 +170,7 @@ pub record MeetsPoints (map : Tmesh) : Type 0 where
 abbrev pub NoPointNever : Type 0
 NoPointNever = EveryMap MeetsPoints
 
--- ---- what an evaluation is refused by
+-- ---- what an evaluation and a question are refused by
 -- one of a list
 abbrev pub OneOf : ℕ → List ℕ → Type 0
 OneOf n [] = ⊥
@@ -178,6 +181,12 @@ abbrev pub EvaluationRefusals : Type 0
 EvaluationRefusals =
     EveryMap
     (λ map. (e s t : Float) (refusal : Refusal) → subsOf e map s t .answer ≡ NoValue refusal → OneOf (refusalNumber refusal) (3 ∷ (4 ∷ (9 ∷ []))))
+
+-- A question is refused 3, 4 or 9, and by no other number.
+abbrev pub QuestionRefusals : Type 0
+QuestionRefusals =
+    EveryMap
+    (λ map. (e : Float) (cell : ℕ) (refusal : Refusal) → cellPoints e map cell .answer ≡ NoWords refusal → OneOf (refusalNumber refusal) (3 ∷ (4 ∷ (9 ∷ []))))
 
 -- ---- document 01's reading: 0 Right cut, rejoined at infinity, ratio 0.5: 6
 abbrev pub rejoined : List MapCall
