@@ -1,4 +1,7 @@
 //! Times the proved library against the published Rust, on the same maps, in one run: README.md says how.
+#[path = "../oracle/src/index.rs"]
+#[allow(dead_code)]
+mod index;
 #[path = "../oracle/src/random.rs"]
 #[allow(dead_code)]
 mod random;
@@ -32,6 +35,8 @@ unsafe extern "C" {
     fn bench_insertions(edits: *const u8, length: usize, repeats: u64) -> u64;
     fn bench_map_insertions(edits: *const u8, length: usize, repeats: u64) -> u64;
     fn bench_knots(edits: *const u8, length: usize, repeats: u64) -> u64;
+    fn bench_indices(edits: *const u8, length: usize, repeats: u64) -> u64;
+    fn bench_cell_points(edits: *const u8, length: usize, repeats: u64) -> u64;
     fn bench_evaluations(edits: *const u8, length: usize, repeats: u64) -> u64;
     fn bench_lent_evaluations(edits: *const u8, length: usize, repeats: u64) -> u64;
     fn bench_rays(edits: *const u8, length: usize, repeats: u64) -> u64;
@@ -39,6 +44,7 @@ unsafe extern "C" {
     fn bench_lent_walks(edits: *const u8, length: usize, repeats: u64) -> u64;
     fn bench_bases(edits: *const u8, length: usize, repeats: u64) -> u64;
     fn gatemap_set_point(file: *const u8, length: usize, s: u64, t: u64, out: *mut u8, room: usize) -> u64;
+    fn gatemap_cell(file: *const u8, length: usize, cell: u8, out: *mut u8, room: usize) -> u64;
 }
 
 pub struct Edit {
@@ -122,11 +128,17 @@ fn any_edits() -> Vec<Edit> {
     (0..FILE_EDITS).map(|_| edit()).collect()
 }
 
-/// The C call at (0.5, 0.5), so many times.
+/// The set-point of a file at (0.5, 0.5), so many times.
 unsafe extern "C" fn files(file: *const u8, length: usize, repeats: u64) -> u64 {
     let half = 0.5f64.to_bits();
     let mut out = [0; 32];
     (0..repeats).map(|_| unsafe { gatemap_set_point(file, length, half, half, out.as_mut_ptr(), out.len()) } + out[7] as u64).sum()
+}
+
+/// The points of a cell of a file, of one cell after the other.
+unsafe extern "C" fn file_cells(file: *const u8, length: usize, repeats: u64) -> u64 {
+    let mut out = [0; 17];
+    (0..repeats).map(|turn| unsafe { gatemap_cell(file, length, turn as u8, out.as_mut_ptr(), out.len()) } + out[16] as u64).sum()
 }
 
 /// Edits along the bottom edge, so that a walk Right from corner 0 makes so many moves.
@@ -150,8 +162,8 @@ fn median(mut times: Vec<f64>) -> f64 {
     times[times.len() / 2]
 }
 
-/// One line of the table: all sides in turn, several times over.
-fn line(name: &str, per_turn: f64, turns: u64, edits: &[Edit], file: &[u8], host: Host, locks: Rust, cells: Rust) {
+/// One line of the table: all sides in turn, several times over. It gives the time of this side.
+fn line(name: &str, per_turn: f64, turns: u64, edits: &[Edit], file: &[u8], host: Host, locks: Rust, cells: Rust) -> f64 {
     let (mut ours, mut theirs, mut plain) = (Vec::new(), Vec::new(), Vec::new());
     for _ in 0..7 {
         ours.push(slope(|repeats| unsafe { host(file.as_ptr(), file.len(), repeats) }, turns) / per_turn);
@@ -160,6 +172,13 @@ fn line(name: &str, per_turn: f64, turns: u64, edits: &[Edit], file: &[u8], host
     }
     let (ours, theirs, plain) = (median(ours), median(theirs), median(plain));
     println!("{name:56} {ours:10.1} {theirs:10.1} {plain:10.1} {:8.2} {:8.2}", ours / theirs, ours / plain);
+    ours
+}
+
+/// A line of work that the Rust has not, with what its time says beside another of this side.
+fn line_alone(name: &str, turns: u64, file: &[u8], host: Host, beside: impl Fn(f64) -> String) {
+    let ours = median((0..7).map(|_| slope(|repeats| unsafe { host(file.as_ptr(), file.len(), repeats) }, turns)).collect());
+    println!("{name:56} {ours:10.1} {:>10} {:>10} {:>8} {:>8} {}", "-", "-", "-", "-", beside(ours));
 }
 
 fn main() {
@@ -173,8 +192,16 @@ fn main() {
             line(&format!("insertion done, mesh by value, up to {points}"), count, turns, &edits, &file, bench_insertions, locks::insertions, cells::insertions);
             line(&format!("insertion done, map by value, up to {points}"), count, turns, &edits, &file, bench_map_insertions, locks::insertions, cells::insertions);
         }
-        line(&format!("all knots built anew, {points} points"), 1.0, 20000 / points as u64, &edits, &file, bench_knots, locks::knots, cells::knots);
-        line(&format!("evaluation with knots kept, {points} points"), 1.0, 20000, &edits, &file, bench_evaluations, locks::evaluations, cells::evaluations);
+        let turns = 20000 / points as u64;
+        let knots = line(&format!("all knots built anew, {points} points"), 1.0, turns, &edits, &file, bench_knots, locks::knots, cells::knots);
+        line_alone(&format!("index built anew, {points} points"), turns, &file, bench_indices, |index| {
+            format!("{:.2} of all knots built anew, {:.2} of the rest of that", index / knots, index / (knots - index))
+        });
+        let name = format!("evaluation with knots kept, {points} points");
+        let evaluation = line(&name, 1.0, 20000, &edits, &file, bench_evaluations, locks::evaluations, cells::evaluations);
+        line_alone(&format!("points of a cell with index kept, {points} points"), 20000, &file, bench_cell_points, |points| {
+            format!("{:.2} of the evaluation", points / evaluation)
+        });
         line(&format!("evaluation with knots kept, over lent knots, {points} points"), 1.0, 20000, &edits, &file, bench_lent_evaluations, locks::evaluations, cells::evaluations);
         line(&format!("ray of 2, over lent sides, {points} points"), 1.0, 100000, &edits, &file, bench_rays, locks::rays, cells::rays);
     }
@@ -194,6 +221,10 @@ fn main() {
         ("1,000 edits drawn blindly", any_edits()),
     ] {
         let turns = 20000 / (edits.len() as u64 + 10);
-        line(&format!("file of {name}"), 1.0, turns, &edits, &map_file(&edits), files, locks::files, cells::files);
+        let file = map_file(&edits);
+        let set_point = line(&format!("file of {name}"), 1.0, turns, &edits, &file, files, locks::files, cells::files);
+        line_alone(&format!("points of a cell, file of {name}"), turns, &file, file_cells, |points| {
+            format!("{:.2} of its set-point", points / set_point)
+        });
     }
 }

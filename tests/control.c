@@ -223,6 +223,14 @@ static void map_call(size_t *made)
         skip(16);
         value("set-point");
         break;
+    case 8:
+        skip(1);
+        if (number("cell") == 0) {
+            answer(8, "cell: first word");
+            answer(8, "cell: second word");
+            answer(1, "cell: count");
+        }
+        break;
     default: {
         if (kind < 16)
             fail("case %zu has a call of kind %zu", case_count, kind);
@@ -297,6 +305,18 @@ static void line(const uint8_t *text, size_t bytes)
         answer(bytes, "report: %s", first);
 }
 
+/* A list of C calls: how many bytes the arguments and the buffer's length take, and how many are stored of the buffer. */
+static void host_calls(const char *call, size_t arguments, size_t buffer)
+{
+    answer(1, "%s: how many", call);
+    now--;
+    for (size_t calls = byte(); calls > 0; calls--) {
+        skip(arguments);
+        size_t answered = number(call);
+        answer(buffer, "%s %zu: buffer", call, answered);
+    }
+}
+
 static void read_file(void)
 {
     answer(2, "length");
@@ -314,13 +334,8 @@ static void read_file(void)
         line(text + at, bytes);
         at += bytes;
     }
-    answer(1, "number of C calls");
-    now--;
-    for (size_t calls = byte(); calls > 0; calls--) {
-        skip(17);
-        size_t answered = number("C call");
-        answer(32, "C call %zu: buffer", answered);
-    }
+    host_calls("C set-point", 17, 32);
+    host_calls("C cell", 2, 17);
 }
 
 /* ---- what must occur */
@@ -345,7 +360,8 @@ static const char *const map_parts[] = {
     "all knots 3: number", "all knots 4: number", "all knots 9: number", "openings: count", "openings: direction 0: 0",
     "openings: direction 0: 1", "openings: direction 3: 0", "openings: direction 3: 1", "lent value 0: number", "lent value 4: number",
     "lent value: x", "lent value: weight", "set-point 0: number", "set-point 4: number", "set-point 15: number", "set-point: x",
-    "set-point: weight", "point made 0: number", "connect 0: number", "remove_connection 0: number", "remove_edge_condition 0: number",
+    "set-point: weight", "cell 0: number", "cell 3: number", "cell 4: number", "cell 9: number", "cell: first word", "cell: second word",
+    "cell: count", "point made 0: number", "connect 0: number", "remove_connection 0: number", "remove_edge_condition 0: number",
     "set_edge_con_weight 0: number", "set_knot_coordinates 0: number", "walk 0: number", "walk: point", "walk: moves", "walk: sum",
     "points made", "side 0: kind 0", "side 1: kind 1", "side 2: kind 2", "side 3: point linked", "side 0: interval", "side 1: weight",
     "coordinate s", "coordinate t", "listed: 0", "listed: 1", "kept: 0", "kept: 1", "position: x", "position: y", "position: z",
@@ -355,9 +371,11 @@ static const char *const file_parts[] = {
     "report: edit refused 1", "report: edit refused 2", "report: edit refused 3", "report: edit refused 4", "report: edit refused 8",
     "report: edit refused 10", "report: made", "report: open", "report: mid", "report: mid refused 3", "report: mid refused 4",
     "report: mid refused 9", "report: mid refused 15", "report: file refused 12", "report: file refused 13", "report: file refused 14",
-    "C call 0: number", "C call 0: buffer", "C call 3: number", "C call 4: number", "C call 9: number", "C call 12: number",
-    "C call 13: number", "C call 14: number", "C call 15: number", "C call 15: buffer", "C call 16: number", "C call 16: buffer",
-    "length", "length of the file", "length of the text", "number of C calls", NULL
+    "C set-point 0: number", "C set-point 0: buffer", "C set-point 3: number", "C set-point 4: number", "C set-point 9: number", "C set-point 12: number",
+    "C set-point 13: number", "C set-point 14: number", "C set-point 15: number", "C set-point 15: buffer", "C set-point 16: number", "C set-point 16: buffer",
+    "C set-point: how many", "C cell 0: number", "C cell 0: buffer", "C cell 3: number", "C cell 4: number", "C cell 9: number",
+    "C cell 9: buffer", "C cell 12: number", "C cell 13: number", "C cell 14: number", "C cell 16: number", "C cell 16: buffer",
+    "C cell: how many", "length", "length of the file", "length of the text", NULL
 };
 
 static const struct format {

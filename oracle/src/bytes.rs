@@ -15,8 +15,11 @@ impl Bytes {
     pub fn pair(&mut self, n: u16) {
         self.0.extend(n.to_be_bytes())
     }
+    pub fn word(&mut self, n: u64) {
+        self.0.extend(n.to_be_bytes())
+    }
     pub fn float(&mut self, x: f64) {
-        self.0.extend(bits_of(x).to_be_bytes())
+        self.word(bits_of(x))
     }
 
     /// The bytes after two that tell how many they are.

@@ -1,21 +1,24 @@
-//! The published Rust held against the reading on many random maps: every outcome, the whole store, the listing, walks, rays, knots
-//! and evaluations. The first difference stops the run.
+//! The published Rust held against the reading on many random maps: every outcome, the whole store, the listing, walks, rays, knots,
+//! evaluations and cells. The first difference stops the run.
 use crate::calls::Call;
-use crate::draw::{MapList, Plan, full_map, map};
+use crate::draw::{MapList, Plan, cell, full_map, map};
 use crate::map_calls::{MapAnswer, MapCall};
 use crate::random::Random;
 use crate::reading::Insertion;
 
-/// How often each answer occurs, by kind of call; the links inferred, the openings, and the values with a positive and finite weight.
+/// How often each answer occurs, by kind of call; the links inferred, the openings, the values with a positive and finite weight, the cells that
+/// a listed point misses, and those that one of number 64 or more reaches.
 #[derive(Default)]
 pub struct Tally {
-    answers: [[u64; 16]; 10],
+    answers: [[u64; 16]; 11],
     openings: u64,
     inferred: u64,
     weighty: u64,
+    missed: u64,
+    second_words: u64,
 }
 
-const WORDS: [&str; 10] = [
+const WORDS: [&str; 11] = [
     "insertion",
     "ray",
     "knots",
@@ -24,6 +27,7 @@ const WORDS: [&str; 10] = [
     "openings",
     "lent value",
     "set-point",
+    "cell",
     "direct call",
     "walk",
 ];
@@ -39,14 +43,19 @@ impl Tally {
             MapCall::Openings => 5,
             MapCall::Lend { .. } => 6,
             MapCall::SetPoint { .. } => 7,
-            MapCall::Direct(Call::Navigate(..)) => 9,
-            MapCall::Direct(_) => 8,
+            MapCall::CellPoints { .. } => 8,
+            MapCall::Direct(Call::Navigate(..)) => 10,
+            MapCall::Direct(_) => 9,
         };
         self.answers[kind][answer.number() as usize] += 1;
         match answer {
             MapAnswer::Inserted(Insertion::Done(counts) | Insertion::Torn(counts, _)) => self.inferred += counts.inferred as u64,
             MapAnswer::Opened(_, openings) => self.openings += openings.len() as u64,
             MapAnswer::Evaluated(Ok(value)) => self.weighty += (value.weight > 0.0 && value.weight < f64::INFINITY) as u64,
+            MapAnswer::Reached(listed, Ok(cell)) => {
+                self.missed += ((cell.count as usize) < *listed) as u64;
+                self.second_words += (cell.words[1] != 0) as u64;
+            }
             _ => {}
         }
     }
@@ -61,10 +70,14 @@ impl Tally {
             "links inferred: {}; openings: {}; values with a positive and finite weight: {}",
             self.inferred, self.openings, self.weighty
         );
+        println!(
+            "cells that a listed point misses: {}; that a point of number 64 or more reaches: {}",
+            self.missed, self.second_words
+        );
     }
 }
 
-/// Rays of lengths 0 to 5 and walks from every point and side, the knots of every point, some evaluations.
+/// Rays of lengths 0 to 5 and walks from every point and side, the knots of every point, some evaluations and cells.
 fn probe(list: &mut MapList, random: &mut Random, tally: &mut Tally) {
     let mut calls = Vec::new();
     for point in 0..list.maps.made() as u8 {
@@ -76,6 +89,7 @@ fn probe(list: &mut MapList, random: &mut Random, tally: &mut Tally) {
     }
     for _ in 0..6 {
         calls.push(MapCall::Evaluate { s: random.unit(), t: random.unit() });
+        calls.push(MapCall::CellPoints { cell: cell(random, &list.maps.reading) });
     }
     for call in calls {
         let answer = list.maps.make(call);

@@ -1,9 +1,10 @@
 //! Maps drawn at random. Ratios come from a few values and near misses of them, so that lines meet and links are inferred, and
 //! some maps start with edits that lead to rings.
 use crate::calls::Call;
+use crate::index::LINES;
 use crate::map_calls::{MapAnswer, MapCall, Maps};
 use crate::random::Random;
-use crate::reading::{CAPACITY, TORN};
+use crate::reading::{CAPACITY, Map, TORN};
 
 /// Edits (point, direction, ratio) after which rings are near.
 pub const RING_PREFIXES: [&[(u8, usize, f64)]; 5] = [
@@ -29,6 +30,13 @@ impl MapList {
         let answer = self.maps.make(call);
         self.calls.push((call, answer.clone()));
         answer
+    }
+
+    /// Asks for a cell, where there is one to ask for.
+    fn ask(&mut self, cell: Option<u8>) {
+        if let Some(cell) = cell {
+            self.call(MapCall::CellPoints { cell });
+        }
     }
 
     pub fn insert(&mut self, random: &mut Random, con: u8, direction: usize, ratio: f64) -> MapAnswer {
@@ -125,14 +133,32 @@ pub fn evaluation(random: &mut Random) -> MapCall {
     MapCall::Evaluate { s: parameter(random), t: parameter(random) }
 }
 
+/// The column or row that holds an outer knot, or the one below it.
+fn at_end(random: &mut Random, knots: [f64; 5]) -> u8 {
+    let end = random.of(&[knots[0], knots[4]]) * LINES as f64;
+    (end.floor() - random.below(2) as f64).clamp(0.0, LINES as f64 - 1.0) as u8
+}
+
+/// A corner's cell, one on the border of what a listed point reaches, or any.
+pub fn cell(random: &mut Random, map: &Map) -> u8 {
+    let corners = [0, LINES - 1, LINES * (LINES - 1), u8::MAX];
+    let point = random.of(&map.listed);
+    match (random.below(4), map.store.point_knot_vectors(point)) {
+        (0, _) => random.of(&corners),
+        (1 | 2, Ok(knots)) => LINES * at_end(random, knots.t) + at_end(random, knots.s),
+        _ => random.below(256) as u8,
+    }
+}
+
 /// A call that asks the whole map, most often for a value.
-pub fn question(random: &mut Random) -> MapCall {
+pub fn question(random: &mut Random, map: &Map) -> MapCall {
     let (s, t) = (parameter(random), parameter(random));
-    match random.below(10) {
+    match random.below(11) {
         0 | 1 => MapCall::Generate,
         2 => MapCall::Openings,
         3 => MapCall::Lend { s, t },
         4 => MapCall::SetPoint { s, t },
+        5 => MapCall::CellPoints { cell: cell(random, map) },
         _ => MapCall::Evaluate { s, t },
     }
 }
@@ -141,12 +167,13 @@ pub fn question(random: &mut Random) -> MapCall {
 #[derive(Clone, Copy)]
 pub struct Plan {
     pub edits: usize,
-    /// Whether the whole map is asked in between: for a value, its openings, the knots of all points.
+    /// Whether the whole map is asked in between: for a value, its openings, the knots of all points, a cell.
     pub questions: bool,
     pub direct_calls: bool,
 }
 
-/// A map after random edits, asked in between and most often after torn ones, which keep the knots.
+/// A map after random edits, asked in between and most often after torn ones, which keep the knots. A cell is asked for before and after an edit,
+/// and after a direct call that follows it.
 pub fn map(random: &mut Random, plan: Plan) -> MapList {
     let corners = std::array::from_fn(|_| position(random));
     let mut list = MapList::new(corners, border(random));
@@ -166,23 +193,30 @@ pub fn map(random: &mut Random, plan: Plan) -> MapList {
         Ratios::Any,
     ]);
     for _ in 0..plan.edits {
+        let cell = (plan.questions && random.one_in(6)).then(|| cell(random, &list.maps.reading));
+        list.ask(cell);
         let (con, direction) = place(random, &list.maps);
         let ratio = ratio(random, ratios);
         let torn = list.insert(random, con, direction, ratio).number() == TORN;
         if plan.questions && (random.one_in(8) || torn && random.one_in(2)) {
-            list.call(question(random));
+            let question = question(random, &list.maps.reading);
+            list.call(question);
         }
+        list.ask(cell);
         if plan.direct_calls && random.one_in(3) {
             let call = direct_call(random, &list.maps);
             list.call(MapCall::Direct(call));
+            list.ask(cell);
             if random.one_in(4) {
                 list.call(MapCall::Generate);
                 list.call(evaluation(random));
+                list.ask(cell);
             }
         }
     }
     if plan.questions {
         list.call(evaluation(random));
+        list.ask(Some(cell(random, &list.maps.reading)));
     }
     list
 }

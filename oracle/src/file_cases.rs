@@ -1,10 +1,11 @@
-//! Map files, each with the whole text that the program prints of it and what the C call answers at some places.
+//! Map files, each with the whole text that the program prints of it and what the C calls answer at some places and cells.
 use crate::bytes::Bytes;
-use crate::draw::{MapList, Plan, RING_PREFIXES, evaluation, full_map, map, position};
-use crate::map_calls::{MapAnswer, MapCall};
+use crate::draw::{MapList, Plan, RING_PREFIXES, cell, evaluation, full_map, map, position};
+use crate::map_calls::{MapAnswer, MapCall, put_cell};
 use crate::map_cases::{AROUND_TWICE, AT_THE_CAPS, SQUARE};
 use crate::map_file::{
-    COUNT_BYTES, EDIT_BYTES, Edit, HEAD_BYTES, MOST_EDITS, MapFile, Run, VALUE_BYTES, bytes_of, host_answer, read, run, text,
+    CELL_BYTES, COUNT_BYTES, EDIT_BYTES, Edit, HEAD_BYTES, MOST_EDITS, MapFile, Run, VALUE_BYTES, bytes_of, host_answer, host_cell, read,
+    run, text,
 };
 use crate::random::Random;
 use crate::reading::{DOWN, Insertion, LEFT, NO_WEIGHT, OPEN_SIDE, RIGHT, RING, UP};
@@ -13,7 +14,7 @@ const DRAWN: usize = 320;
 const REFUSED_EVALUATIONS: usize = 8;
 const FULL_STORES: usize = 4;
 
-/// What every byte of the C call's buffer is before the call, and all that a refusal leaves in it.
+/// What every byte of a C call's buffer is before the call, and all that a refusal leaves in it.
 const FILLER: u8 = 0xa5;
 const MOST_ROOM: usize = 64;
 
@@ -57,11 +58,12 @@ const BORDER_MET: &[(u8, usize, f64)] = &[
     (9, RIGHT, 0.5),
 ];
 
-/// A file, what it is kept for, and the C calls made with it: s, t and the length of the buffer.
+/// A file, what it is kept for, and the C calls made with it: s, t and the length of the buffer; a cell and the length of the buffer.
 pub struct Case {
     kind: &'static str,
     file: Vec<u8>,
     calls: Vec<(u64, u64, usize)>,
+    cells: Vec<(u8, usize)>,
 }
 
 fn insertions(random: &mut Random, edits: &[(u8, usize, f64)]) -> Vec<Edit> {
@@ -268,7 +270,22 @@ fn noise(random: &mut Random) -> Vec<Vec<u8>> {
     files
 }
 
-/// Places and buffers for the C call: the middle, two drawn places, and at times a buffer that is too short.
+/// Cells and buffers for the C call for a cell: two drawn cells, one of a file that is refused, and at times a buffer that is too short.
+fn cells(random: &mut Random, file: &[u8]) -> Vec<(u8, usize)> {
+    let mut cells = match read(file) {
+        Ok(file) => {
+            let map = run(&file).maps.reading;
+            (0..2).map(|_| (cell(random, &map), random.of(&[CELL_BYTES, CELL_BYTES + 1, MOST_ROOM]))).collect()
+        }
+        Err(_) => vec![(random.below(256) as u8, CELL_BYTES)],
+    };
+    if random.one_in(3) {
+        cells.push((random.below(256) as u8, random.of(&[0, CELL_BYTES - 1])));
+    }
+    cells
+}
+
+/// Places and buffers for the C call for a set-point: the middle, two drawn places, and at times a buffer that is too short.
 fn calls(random: &mut Random, valid: bool) -> Vec<(u64, u64, usize)> {
     let half = 0.5f64.to_bits();
     let mut calls = vec![(half, half, VALUE_BYTES)];
@@ -295,7 +312,7 @@ impl Case {
     /// The same calls on a file with other edits.
     pub fn with_edits(&self, file: &MapFile, edits: &[Edit]) -> Case {
         let file = bytes_of(&MapFile { border: file.border, corners: file.corners, edits: edits.to_vec() });
-        Case { kind: self.kind, file, calls: self.calls.clone() }
+        Case { kind: self.kind, file, calls: self.calls.clone(), cells: self.cells.clone() }
     }
 
     pub fn length(&self) -> usize {
@@ -314,7 +331,8 @@ pub fn fresh(random: &mut Random, place: usize) -> Case {
         file[at] = random.bits() as u8;
     }
     let calls = calls(random, read(&file).is_ok());
-    Case { kind: "fresh", file, calls }
+    let cells = cells(random, &file);
+    Case { kind: "fresh", file, calls, cells }
 }
 
 /// A case's bytes, its length first.
@@ -334,6 +352,17 @@ pub fn encoded(case: &Case) -> Vec<u8> {
         match answer {
             Ok(value) => body.0.extend(value.map(u64::to_be_bytes).concat()),
             Err(_) => body.0.extend([FILLER; VALUE_BYTES]),
+        }
+    }
+    body.byte(case.cells.len() as u8);
+    for &(cell, room) in &case.cells {
+        body.byte(cell);
+        body.byte(room as u8);
+        let answer = host_cell(&case.file, cell, room);
+        body.byte(answer.err().unwrap_or(0));
+        match answer {
+            Ok(cell) => put_cell(&mut body, &cell),
+            Err(_) => body.0.extend([FILLER; CELL_BYTES]),
         }
     }
     body.with_length()
@@ -361,9 +390,10 @@ pub fn write(seed: u64) {
     for (kind, files) in kinds {
         for file in files(&mut random) {
             let calls = calls(&mut random, read(&file).is_ok());
-            cases.push(Case { kind, file, calls });
+            cases.push(Case { kind, file, calls, cells: Vec::new() });
         }
     }
+    cases.iter_mut().for_each(|case| case.cells = cells(&mut random, &case.file));
     // Outside the map of no edits, which stands first, there is no weight.
     let outside = (5.0f64.to_bits(), 0.5f64.to_bits(), VALUE_BYTES);
     assert_eq!(host_answer(&cases[0].file, outside.0, outside.1, outside.2), Err(NO_WEIGHT));
@@ -421,12 +451,15 @@ impl Words {
 }
 
 fn print_table(cases: &[Case]) {
-    let (mut files, mut edits, mut mids, mut hosts) = <(Numbers, Numbers, Numbers, Numbers)>::default();
+    let (mut files, mut edits, mut mids, mut hosts, mut cells) = <(Numbers, Numbers, Numbers, Numbers, Numbers)>::default();
     let (mut kinds, mut differences, mut inferred) = <(Words, Words, [usize; 3])>::default();
     for case in cases {
         kinds.count(case.kind);
         for &(s, t, room) in &case.calls {
             hosts.count(host_answer(&case.file, s, t, room).err().unwrap_or(0));
+        }
+        for &(cell, room) in &case.cells {
+            cells.count(host_cell(&case.file, cell, room).err().unwrap_or(0));
         }
         let file = read(&case.file);
         files.count(file.as_ref().err().copied().unwrap_or(0));
@@ -449,5 +482,6 @@ fn print_table(cases: &[Case]) {
     println!("inferred     none {}, one {}, two {}", inferred[0], inferred[1], inferred[2]);
     mids.print("mid");
     hosts.print("C calls");
+    cells.print("cells");
     differences.print("differences");
 }

@@ -7,6 +7,7 @@ mod compare;
 mod differences;
 mod draw;
 mod file_cases;
+mod index;
 mod map_calls;
 mod map_cases;
 mod map_file;

@@ -2,6 +2,7 @@
 //! wherever it exists.
 use crate::bytes::{Bytes, bits_of};
 use crate::calls::{Answer, Call, assert_same_points, hold_against, perform, put_answer, put_call, put_points};
+use crate::index::{Cell, cell_of};
 use crate::original;
 use crate::reading::{self, FULL, Insertion, Knots, NO_POINT, RING, Side, TORN, Value, anticlockwise, clockwise};
 
@@ -18,6 +19,8 @@ pub enum MapCall {
     Lend { s: f64, t: f64 },
     /// The set-point of an evaluation.
     SetPoint { s: f64, t: f64 },
+    /// Which listed points reach a cell.
+    CellPoints { cell: u8 },
     Direct(Call),
 }
 
@@ -31,6 +34,8 @@ pub enum MapAnswer {
     Generated(Result<(), u8>),
     /// How many points are made, and which of their sides are openings.
     Opened(usize, Vec<(u8, usize)>),
+    /// How many points are listed, and the cell.
+    Reached(usize, Result<Cell, u8>),
     Direct(Answer),
 }
 
@@ -46,6 +51,7 @@ impl MapAnswer {
             MapAnswer::Evaluated(answer) => answer.err().unwrap_or(0),
             MapAnswer::Generated(answer) => answer.err().unwrap_or(0),
             MapAnswer::Opened(..) => 0,
+            MapAnswer::Reached(_, answer) => answer.err().unwrap_or(0),
             MapAnswer::Direct(answer) => answer.number,
         }
     }
@@ -94,6 +100,7 @@ impl Maps {
             MapCall::SetPoint { s, t } => MapAnswer::Evaluated(self.evaluate(s, t).and_then(Value::set_point)),
             MapCall::Generate => MapAnswer::Generated(self.generate()),
             MapCall::Openings => MapAnswer::Opened(self.made(), self.openings()),
+            MapCall::CellPoints { cell } => MapAnswer::Reached(self.reading.listed.len(), self.cell_points(cell)),
             MapCall::Direct(call) => MapAnswer::Direct(self.direct(call)),
         }
     }
@@ -151,18 +158,38 @@ impl Maps {
     fn evaluate(&mut self, s: f64, t: f64) -> Result<Value, u8> {
         let converts = self.reading.kept.is_some() || self.conversion_ends();
         let answer = self.reading.subs(s, t);
-        if answer.err() == Some(RING) || answer.is_err() && !converts {
-            return answer;
-        }
-        if self.reading.kept.iter().flatten().any(|knots| !knots.never_fall()) {
-            self.same_knots = false;
-        }
-        if self.followed && self.same_knots {
+        if self.builds_alike(answer.err(), converts) {
             let published = self.original.subs(s, t).map(bits);
             assert_eq!(published, answer.map(|value| bits(value.position)), "evaluation at {s} {t}");
             self.assert_same_knots();
         }
         answer
+    }
+
+    /// The published map has no index: it builds its knots for a value, as the reading does for the cell, and the cell is read from its listing
+    /// and the knots that it then keeps.
+    fn cell_points(&mut self, cell: u8) -> Result<Cell, u8> {
+        let converts = self.reading.kept.is_some() || self.conversion_ends();
+        let answer = self.reading.cell_points(cell);
+        if self.builds_alike(answer.err(), converts) {
+            let built = self.original.subs(0.0, 0.0);
+            self.assert_same_knots();
+            let rows = || self.original.kept().expect("a value's knots are kept");
+            let published = built.map(|_| cell_of(&self.original.listed(), &rows(), cell));
+            assert_eq!(published, answer, "cell {cell}");
+        }
+        answer
+    }
+
+    /// Whether the published map is asked for what rests on knots: not where building them may not end or panics, and not where it would sort them.
+    fn builds_alike(&mut self, refusal: Option<u8>, converts: bool) -> bool {
+        if refusal == Some(RING) || refusal.is_some() && !converts {
+            return false;
+        }
+        if self.reading.kept.iter().flatten().any(|knots| !knots.never_fall()) {
+            self.same_knots = false;
+        }
+        self.followed && self.same_knots
     }
 
     /// The published map is not asked where it may not end or panics, and not where it would sort: it then keeps what it kept.
@@ -257,6 +284,7 @@ pub fn put_map_call(out: &mut Bytes, call: MapCall) {
         MapCall::Openings => out.byte(5),
         MapCall::Lend { s, t } => at_place(6, s, t),
         MapCall::SetPoint { s, t } => at_place(7, s, t),
+        MapCall::CellPoints { cell } => [8, cell].iter().for_each(|n| out.byte(*n)),
         MapCall::Direct(call) => {
             let start = out.0.len();
             put_call(out, call);
@@ -272,8 +300,14 @@ fn put_openings(out: &mut Bytes, made: usize, openings: &[(u8, usize)]) {
     sides.for_each(|side| out.byte(openings.contains(&side) as u8));
 }
 
-/// An answer's bytes: its number; of an insertion done or torn its counts; of any other that was not refused its floats. The openings have
-/// no number.
+/// A cell's bytes: both words and the count.
+pub fn put_cell(out: &mut Bytes, cell: &Cell) {
+    cell.words.iter().for_each(|word| out.word(*word));
+    out.byte(cell.count);
+}
+
+/// An answer's bytes: its number; of an insertion done or torn its counts; of any other that was not refused its floats, or its cell. The
+/// openings have no number.
 pub fn put_map_answer(out: &mut Bytes, answer: &MapAnswer) {
     match answer {
         MapAnswer::Direct(answer) => return put_answer(out, *answer),
@@ -292,6 +326,7 @@ pub fn put_map_answer(out: &mut Bytes, answer: &MapAnswer) {
             value.position.iter().for_each(|x| out.float(*x));
             out.float(value.weight);
         }
+        MapAnswer::Reached(_, Ok(cell)) => put_cell(out, cell),
         _ => {}
     }
 }

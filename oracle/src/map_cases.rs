@@ -1,11 +1,12 @@
 //! Lists of calls on whole maps, each with the answer of every call and the map at the end.
 use crate::bytes::Bytes;
 use crate::calls::Call;
-use crate::draw::{MapList, Plan, RING_PREFIXES, evaluation, full_map, map, question};
+use crate::draw::{MapList, Plan, RING_PREFIXES, cell, evaluation, full_map, map, question};
+use crate::index::{Cell, LINES};
 use crate::map_calls::{MapAnswer, MapCall, put_map, put_map_answer, put_map_call};
 use crate::map_file::bits;
 use crate::random::Random;
-use crate::reading::{BORDER, CAPACITY, DOWN, FULL, INTERVAL, LEFT, NO_WEIGHT, OPEN_SIDE, RIGHT, UP};
+use crate::reading::{BORDER, CAPACITY, DOWN, FOREIGN, FULL, INTERVAL, LEFT, NO_WEIGHT, OPEN_SIDE, RATIO, RIGHT, TORN, UP};
 
 const ALL_RAYS: usize = 24;
 const SOME_RAYS: usize = 170;
@@ -145,10 +146,152 @@ fn worked_examples(random: &mut Random) -> Vec<MapList> {
     infinite.call(MapCall::Direct(Call::Connect(3, 0, DOWN, f64::NAN)));
     insert(&mut infinite, random, &[(3, DOWN, 0.5), (0, UP, 1.0), (2, LEFT, 0.25)]);
     infinite.call(MapCall::Evaluate { s: 0.5, t: 0.5 });
-    vec![square(), fresh, at_one, torn, inferred, infinite, refused_knots(), no_knots(), full_line(random)]
+    let mut lists = vec![square(), fresh, at_one, torn, inferred, infinite, refused_knots(), no_knots(), full_line(random)];
+    lists.extend([cells_kept(random), cells_refused(), cells_between(random), cells_of_grid(random)]);
+    lists.extend(CELL_BORDERS.map(|border| cells_of_border(random, border)));
+    lists
 }
 
-/// Links are cut so that a ray is refused: the knots kept stay kept when building them is refused.
+/// The cells at the corners of the grid.
+const CORNERS: [u8; 4] = [0, 15, 240, 255];
+
+/// A row and a column in the middle of the grid.
+const MIDDLE: u8 = 7;
+
+/// Borders with which outer knots fall, are infinite or NaN, stand on lines of the grid, next to 0, or far away.
+const CELL_BORDERS: [f64; 11] =
+    [f64::INFINITY, f64::NEG_INFINITY, f64::NAN, -0.75, -0.25, -0.0625, -5e-324, -0.0, 0.0, 5e-324, 1e300];
+
+fn reached(list: &mut MapList, cell: u8) -> Cell {
+    let MapAnswer::Reached(_, Ok(cell)) = list.call(MapCall::CellPoints { cell }) else { panic!("a refusal") };
+    cell
+}
+
+/// The index of the knots kept: it stays after insertions torn and refused, after direct calls and where building the knots is refused, and is
+/// another after an insertion that is done and where the knots are built anew. Wherever it stays, one built anew would be another, or refused.
+fn cells_kept(random: &mut Random) -> MapList {
+    const ASKED: u8 = 15;
+    let mut list = square();
+    for cell in CORNERS {
+        assert_eq!(reached(&mut list, cell), Cell { words: [15, 0], count: 4 });
+    }
+    assert_eq!(list.insert(random, 0, RIGHT, 0.5).number(), 0);
+    let before = reached(&mut list, ASKED);
+    assert_eq!(before, Cell { words: [31, 0], count: 5 });
+    for (con, ratio, number) in [(0, 0.0, TORN), (0, 2.0, RATIO), (5, 0.5, FOREIGN)] {
+        assert_eq!(list.insert(random, con, RIGHT, ratio).number(), number);
+        assert_eq!(reached(&mut list, ASKED), before);
+    }
+    // The torn point stands between corner 0 and point 4, so that corner 0 reaches no further than point 4.
+    assert_eq!(list.call(MapCall::Generate).number(), 0);
+    assert_eq!(reached(&mut list, ASKED), Cell { words: [30, 0], count: 4 });
+    assert_eq!(list.insert(random, 2, DOWN, 0.5).number(), 0);
+    let done = reached(&mut list, ASKED);
+    assert_eq!(done, Cell { words: [30 | 1 << 6, 0], count: 5 });
+    for call in [Call::SetEdgeConWeight(6, RIGHT, -0.75), Call::RemoveConnection(0, UP), Call::Make(1.0)] {
+        assert_eq!(list.call(MapCall::Direct(call)).number(), 0);
+        assert_eq!(reached(&mut list, ASKED), done);
+    }
+    assert_eq!(list.call(MapCall::Direct(Call::Connect(0, 3, UP, 0.5))).number(), 0);
+    assert_eq!(reached(&mut list, ASKED), done);
+    assert_eq!(list.call(MapCall::Generate).number(), 0);
+    assert_eq!(reached(&mut list, ASKED), Cell { words: [30, 0], count: 4 });
+    // Building is refused at corner 2, after corner 0, which reaches less than it did.
+    let built = reached(&mut list, 0);
+    assert_eq!(built.words[0] & 1, 1);
+    for call in [Call::SetEdgeConWeight(0, LEFT, -0.75), Call::RemoveEdgeCondition(2, UP)] {
+        assert_eq!(list.call(MapCall::Direct(call)).number(), 0);
+    }
+    assert!(list.maps.reading.store.point_knot_vectors(0).is_ok_and(|knots| knots.s[0] == 0.75));
+    assert_eq!(list.call(MapCall::Generate).number(), BORDER);
+    assert_eq!(reached(&mut list, 0), built);
+    list
+}
+
+/// Where no knots are kept and building them is refused, so is the cell.
+fn cells_refused() -> MapList {
+    let mut list = square();
+    for call in [Call::RemoveConnection(0, RIGHT), Call::RemoveConnection(3, RIGHT)] {
+        assert_eq!(list.call(MapCall::Direct(call)).number(), 0);
+    }
+    for _ in 0..2 {
+        assert_eq!(list.call(MapCall::CellPoints { cell: 119 }).number(), BORDER);
+    }
+    list
+}
+
+/// Outer knots between lines of the grid, on one, and one float above and below one: every cell.
+fn cells_between(random: &mut Random) -> MapList {
+    const LINE: f64 = 0.4375;
+    let mut list = MapList::new(SQUARE, 0.0);
+    for (con, direction, ratio) in [
+        (0, RIGHT, 0.3),
+        (3, RIGHT, 0.3),
+        (4, RIGHT, 0.5),
+        (5, RIGHT, 0.5),
+        (0, UP, 0.25),
+        (1, UP, 0.25),
+        (8, UP, 0.25f64.next_up()),
+        (9, UP, 0.25f64.next_down().next_down()),
+        (10, UP, 0.5),
+        (11, UP, 0.5),
+    ] {
+        assert_eq!(list.insert(random, con, direction, ratio).number(), 0);
+    }
+    let outer = |point: u8| list.maps.reading.store.point_knot_vectors(point).map(|knots| (knots.t[0], knots.t[4]));
+    assert_eq!([outer(0), outer(1)], [Ok((0.0, LINE.next_up())), Ok((0.0, LINE.next_down()))]);
+    assert_eq!([outer(2), outer(3)], [Ok((LINE, 1.0)); 2]);
+    assert_eq!([outer(12), outer(13)], [Ok((0.25f64.next_down().next_down(), 1.0)), Ok((0.25f64.next_up(), 1.0))]);
+    every_cell(&mut list);
+    list
+}
+
+/// Nine lines across the map each way, 121 points: every cell. Each listed point misses some, and the second word has the upper points.
+fn cells_of_grid(random: &mut Random) -> MapList {
+    const LINES_ACROSS: u8 = 9;
+    let mut list = square();
+    let split = |list: &mut MapList, random: &mut Random, con: u8, direction: usize, line: u8| {
+        assert_eq!(list.insert(random, con, direction, 1.0 / (LINES_ACROSS + 1 - line) as f64).number(), 0);
+        list.maps.made() as u8 - 1
+    };
+    let (mut below, mut top) = (vec![0], 3);
+    for line in 0..LINES_ACROSS {
+        below.push(split(&mut list, random, below[line as usize], RIGHT, line));
+        top = split(&mut list, random, top, RIGHT, line);
+    }
+    below.push(1);
+    for line in 0..LINES_ACROSS {
+        below = below.into_iter().map(|con| split(&mut list, random, con, UP, line)).collect();
+    }
+    every_cell(&mut list);
+    list
+}
+
+/// All points have the same outer knots first. Then corner 0 ends at 1 across and corner 1 starts at 0, and upwards all points reach every row.
+fn cells_of_border(random: &mut Random, border: f64) -> MapList {
+    let mut list = MapList::new(SQUARE, border);
+    let row = || (0..LINES).map(|column| LINES * MIDDLE + column);
+    let column = (0..LINES).map(|row| LINES * row + MIDDLE);
+    for cell in CORNERS.into_iter().chain(row()).chain(column) {
+        list.call(MapCall::CellPoints { cell });
+    }
+    assert_eq!(list.insert(random, 0, RIGHT, 0.5).number(), 0);
+    for (point, direction) in [(0, DOWN), (4, DOWN), (1, DOWN), (2, UP), (3, UP)] {
+        assert_eq!(list.call(MapCall::Direct(Call::SetEdgeConWeight(point, direction, 1.0))).number(), 0);
+    }
+    for cell in row() {
+        list.call(MapCall::CellPoints { cell });
+    }
+    list
+}
+
+fn every_cell(list: &mut MapList) {
+    for cell in 0..=255 {
+        list.call(MapCall::CellPoints { cell });
+    }
+}
+
+/// Links are cut so that a ray is refused: the knots kept stay kept when building them is refused, and so does their index.
 fn refused_knots() -> MapList {
     let evaluate = MapCall::Evaluate { s: 0.25, t: 0.75 };
     let direct = |list: &mut MapList, calls: [Call; 2]| {
@@ -160,6 +303,7 @@ fn refused_knots() -> MapList {
     let first = list.call(evaluate);
     direct(&mut list, [Call::RemoveConnection(0, RIGHT), Call::RemoveConnection(3, RIGHT)]);
     assert_eq!(list.call(MapCall::Generate).number(), BORDER);
+    assert_eq!(reached(&mut list, 119), Cell { words: [15, 0], count: 4 });
     assert_same_value(&first, &list.call(evaluate));
     assert_same_value(&first, &list.call(MapCall::Lend { s: 0.25, t: 0.75 }));
     direct(&mut list, [Call::Connect(0, 1, RIGHT, 0.5), Call::Connect(3, 2, RIGHT, 0.5)]);
@@ -168,6 +312,7 @@ fn refused_knots() -> MapList {
     let second = list.call(evaluate);
     direct(&mut list, [Call::RemoveEdgeCondition(3, UP), Call::RemoveEdgeCondition(3, LEFT)]);
     assert_eq!(list.call(MapCall::Generate).number(), OPEN_SIDE);
+    assert_eq!(reached(&mut list, 119), Cell { words: [15, 0], count: 4 });
     assert_same_value(&second, &list.call(evaluate));
     list
 }
@@ -184,7 +329,8 @@ fn no_knots() -> MapList {
         assert_eq!(list.call(MapCall::Direct(call)).number(), 0);
     }
     let (s, t) = (0.25, 0.75);
-    for call in [MapCall::Generate, MapCall::Evaluate { s, t }, MapCall::Lend { s, t }, MapCall::SetPoint { s, t }] {
+    let cell = MapCall::CellPoints { cell: 119 };
+    for call in [MapCall::Generate, cell, MapCall::Evaluate { s, t }, MapCall::Lend { s, t }, MapCall::SetPoint { s, t }] {
         assert_eq!(list.call(call).number(), BORDER);
     }
     list.call(MapCall::Openings);
@@ -201,6 +347,9 @@ fn full_line(random: &mut Random) -> MapList {
     }
     assert_eq!(list.insert(random, con, RIGHT, 0.5).number(), FULL);
     assert_eq!(list.call(MapCall::Direct(Call::Make(1.0))).number(), FULL);
+    for cell in 0..LINES {
+        list.call(MapCall::CellPoints { cell });
+    }
     list
 }
 
@@ -217,6 +366,7 @@ fn edited(random: &mut Random, edits: &[(u8, usize, f64)], lengths: &[usize]) ->
     }
     list.call(MapCall::Evaluate { s: 0.5, t: 0.5 });
     list.call(MapCall::Lend { s: 0.5, t: 0.5 });
+    list.call(MapCall::CellPoints { cell: 136 });
     list.call(MapCall::Openings);
     rays(&mut list, lengths);
     list
@@ -244,8 +394,17 @@ fn some_rays(list: &mut MapList, random: &mut Random) {
         list.call(MapCall::Knots { point });
     }
     list.call(MapCall::Openings);
-    list.call(question(random));
+    let question = question(random, &list.maps.reading);
+    list.call(question);
+    some_cells(list, random, 4);
     list.call(evaluation(random));
+}
+
+pub fn some_cells(list: &mut MapList, random: &mut Random, count: usize) {
+    for _ in 0..count {
+        let cell = cell(random, &list.maps.reading);
+        list.call(MapCall::CellPoints { cell });
+    }
 }
 
 /// A list's bytes, its length first.

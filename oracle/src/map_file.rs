@@ -1,6 +1,7 @@
-//! A second reading of the map file, of what the program prints of it and of what the C call answers, written from the paper that
+//! A second reading of the map file, of what the program prints of it and of what the C calls answer, written from the paper that
 //! describes them. The map itself is run on both sides, as everywhere in the comparison.
 use crate::bytes::bits_of;
+use crate::index::Cell;
 use crate::map_calls::{MapAnswer, MapCall, Maps};
 use crate::reading::{RIGHT, Refused, Side, UP, Value, opposite};
 
@@ -15,8 +16,11 @@ pub const HEAD_BYTES: usize = 105;
 pub const EDIT_BYTES: usize = 34;
 pub const MOST_EDITS: usize = 1000;
 
-/// What the C call writes: a position and its weight.
+/// What the C call for a set-point writes: a position and its weight.
 pub const VALUE_BYTES: usize = 32;
+
+/// What the C call for a cell writes: both words and the count.
+pub const CELL_BYTES: usize = 17;
 
 #[derive(Clone, Copy, Debug)]
 pub struct Edit {
@@ -160,7 +164,16 @@ pub fn text(file: &[u8]) -> String {
     }
 }
 
-/// What the C call answers: 16 before all else, then the file's refusal, then the evaluation's.
+/// What the C call for a cell answers: 16 before all else, then the file's refusal, then that of building the knots.
+pub fn host_cell(file: &[u8], cell: u8, room: usize) -> Refused<Cell> {
+    if room < CELL_BYTES {
+        return Err(SHORT);
+    }
+    let MapAnswer::Reached(_, answer) = run(&read(file)?).maps.make(MapCall::CellPoints { cell }) else { unreachable!() };
+    answer
+}
+
+/// What the C call for a set-point answers: 16 before all else, then the file's refusal, then the evaluation's.
 pub fn host_answer(file: &[u8], s: u64, t: u64, room: usize) -> Refused<[u64; 4]> {
     if room < VALUE_BYTES {
         return Err(SHORT);

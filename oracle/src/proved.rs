@@ -17,6 +17,8 @@ use std::process::Command;
 /// How many lists are judged at a time.
 const AT_A_TIME: usize = 500;
 const VALUES: usize = 24;
+/// How many cells of a full map are asked for.
+const CELLS: usize = 24;
 
 /// A program that replays the file `cases` of the folder in which it is run, and writes `right N wrong M`.
 struct Program {
@@ -104,8 +106,8 @@ fn lines<C: Debug>(calls: &[C]) -> String {
     calls.iter().map(|call| format!("\n    {call:?}")).collect()
 }
 
-/// Rays of length 5 from every point and side, the knots of every point, the openings, and values, after what was drawn. Somewhere among the
-/// values the knots of all points are built anew.
+/// Rays of length 5 from every point and side, the knots of every point, the openings, and values and cells, after what was drawn. Somewhere among
+/// the values the knots of all points are built anew.
 fn probed(mut list: MapList, random: &mut Random) -> MapList {
     for point in 0..list.maps.made() as u8 {
         for direction in 0..4 {
@@ -125,13 +127,16 @@ fn probed(mut list: MapList, random: &mut Random) -> MapList {
             1 => MapCall::SetPoint { s, t },
             _ => MapCall::Evaluate { s, t },
         });
+        map_cases::some_cells(&mut list, random, value % 2);
     }
     list
 }
 
 fn map_list(random: &mut Random, place: usize) -> MapList {
     if place % 100 == 0 {
-        return full_map(random);
+        let mut list = full_map(random);
+        map_cases::some_cells(&mut list, random, CELLS);
+        return list;
     }
     let edits = random.of(&[3, 6, 10, 20, 40]);
     let plan = Plan { edits: random.below(edits) + 1, questions: true, direct_calls: place % 5 == 0 };

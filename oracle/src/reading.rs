@@ -2,6 +2,8 @@
 //! number, every refusal by its number, every cap on moves. The comparison holds the published Rust against it, and where a
 //! ring would keep the Rust running it alone gives the answer.
 
+use crate::index::{Cell, cell_of};
+
 /// The answers' numbers, as the table of answers has them.
 pub const RATIO: u8 = 1;
 pub const FOREIGN: u8 = 2;
@@ -453,10 +455,18 @@ impl Map {
     }
 
     /// Knots are built only if none are kept.
+    fn keep_knots(&mut self) -> Refused<()> {
+        if self.kept.is_none() { self.generate_knot_vectors() } else { Ok(()) }
+    }
+
+    /// Which listed points reach a cell. The index is dropped and rebuilt with the knots, so it is always that of the knots kept.
+    pub fn cell_points(&mut self, cell: u8) -> Refused<Cell> {
+        self.keep_knots()?;
+        Ok(cell_of(&self.listed, self.kept.as_deref().expect("knots are kept"), cell))
+    }
+
     pub fn subs(&mut self, s: f64, t: f64) -> Refused<Value> {
-        if self.kept.is_none() {
-            self.generate_knot_vectors()?;
-        }
+        self.keep_knots()?;
         let mut value = Value { position: [0.0; 3], weight: 0.0 };
         for (knots, &point) in self.kept.iter().flatten().zip(&self.listed) {
             let weight = basis_function(s, &knots.s) * basis_function(t, &knots.t);

@@ -4,10 +4,14 @@ use basis::basis_function;
 use big_endian::after;
 use big_endian::byte_at;
 use big_endian::float_at;
+use cells::CellAnswer;
+use cells::cell_points;
 use control_point::sides::fill;
 use control_point::small::closeness;
 use control_point::t_mesh_direction::TmeshDirection;
 use evaluation::evaluation::subs;
+use grid_index::cell_of;
+use grid_index::index_of;
 use knot_vectors::knots::generate_knot_vectors;
 use lent_surface::lend;
 use lent_surface::lent_value;
@@ -153,6 +157,51 @@ pub extern "C" fn bench_knots(edits: &[u8], repeats: u64) -> u64 {
         turn += 1;
     }
     if map.kept { 1 } else { 0 }
+}
+
+// The index of kept knots built anew: the sum of the counts of some of its cells.
+#[no_mangle]
+pub extern "C" fn bench_indices(edits: &[u8], repeats: u64) -> u64 {
+    let generated = generate_knot_vectors(map_of(edits));
+    let map = generated.map;
+    let knots = map.knots;
+    let mut listed = map.mesh.listed;
+    let mut cell: u8 = 0;
+    let mut total: u64 = 0;
+    let mut turn: u64 = 0;
+    while turn < repeats {
+        let words = cell_of(index_of(listed, knots), cell);
+        cell = words.count;
+        listed[0] = cell != 0;
+        total = counted(total, cell);
+        turn += 1;
+    }
+    total
+}
+
+fn count_in(answer: CellAnswer) -> u8 {
+    match answer {
+        CellAnswer::Is(words) => words.count,
+        CellAnswer::Refused(_) => 255,
+    }
+}
+
+// The points of a cell with knots and index kept: the sum of their counts.
+#[no_mangle]
+pub extern "C" fn bench_cell_points(edits: &[u8], repeats: u64) -> u64 {
+    let mut map = map_of(edits);
+    let mut cell: u8 = 0;
+    let mut total: u64 = 0;
+    let mut turn: u64 = 0;
+    while turn < repeats {
+        let asked = cell_points(map, cell);
+        let answer = asked.answer;
+        map = asked.map;
+        cell = count_in(answer);
+        total = counted(total, cell);
+        turn += 1;
+    }
+    total
 }
 
 fn height(answer: EvaluationAnswer) -> f64 {

@@ -1,7 +1,8 @@
--- What the report of a map file and the C call leave, held against stored bytes. The buffer that each is lent is a part of a page: `guard` bytes stand in front of it, and
+-- What the report of a map file and the C calls leave, held against stored bytes. The buffer that each is lent is a part of a page: `guard` bytes stand in front of it, and
 -- some behind. Every byte of the page is the filler before.
 --
--- A stored call is 50 bytes: s 8, t 8, the buffer's length 1, the answer's number 1, and the page's bytes from the buffer's start on, 32; refused, these are the filler.
+-- A stored call is its arguments, the buffer's length 1, the answer's number 1, and the page's bytes from the buffer's start on, as many as an answer has; refused, these are the
+-- filler. For a set-point it is 50 bytes: the arguments are s 8 and t 8, and 32 stand at the end. For a cell it is 20: the cell 1, and 17 at the end.
 use Prim.Native.Nat.{ℕ, _+_, _-_}
 use mathlib.Core.Bool.{Bool, false, cond, _&&_}
 use mathlib.Core.List.{List, _++_}
@@ -9,6 +10,7 @@ use lib.Dec.{eqb, ltb}
 use lib.ListN.{length, take, drop}
 use Rattle.big_endian.specs.BigEndian.{byteAt, numberAt}
 use Rattle.big_endian.specs.Written.{written}
+use Rattle.gatemap_host.specs.CellCall.{hostCellNumber, hostCellBuffer}
 use Rattle.gatemap_host.specs.SetPoint.{hostNumber, hostBuffer}
 use Rattle.report.specs.Report.{reportOf}
 use Rattle.stored_page.specs.Page.{guard, holds}
@@ -30,7 +32,24 @@ reportsRight file text end page =
 unfoldable pub textIsRight : List ℕ → List ℕ → ℕ → List ℕ → Bool
 textIsRight file text end page = cond (ltb (length page) end) false (reportsRight file text end page)
 
--- ---- the C call
+-- ---- a C call
+-- where the buffer of a call ends, whose length stands at a place
+abbrev pub bufferEnd : List ℕ → ℕ → ℕ
+bufferEnd call roomAt = guard + byteAt call roomAt
+
+-- what is stored of the answer, from a place on to the call's end
+abbrev pub storedAnswer : List ℕ → ℕ → ℕ → List ℕ
+storedAnswer call at end = take (end - at) (drop at call)
+
+-- whether a number is the first byte stored, and a page holds those behind
+abbrev pub answerIsRight : ℕ → List ℕ → List ℕ → Bool
+answerIsRight number page stored = eqb number (byteAt stored 0) && holds page (drop 1 stored)
+
+-- a call that is stored in so many bytes, with a buffer that ends at a place of the page, is wrong where either has fewer
+unfoldable pub whereWhole : ℕ → List ℕ → ℕ → List ℕ → Bool → Bool
+whereWhole bytes call end page right = cond (ltb (length call) bytes) false (cond (ltb (length page) end) false right)
+
+-- ---- a set-point
 abbrev pub tAt : ℕ
 tAt = 8
 
@@ -40,27 +59,36 @@ roomAt = 16
 abbrev pub answerAt : ℕ
 answerAt = 17
 
-abbrev pub valueAt : ℕ
-valueAt = 18
-
 abbrev pub callBytes : ℕ
 callBytes = 50
-
--- the value stored with a call
-abbrev pub storedValue : List ℕ → List ℕ
-storedValue call = take (callBytes - valueAt) (drop valueAt call)
-
--- where the buffer of a call ends
-abbrev pub bufferEnd : List ℕ → ℕ
-bufferEnd call = guard + byteAt call roomAt
 
 -- whether the call with a file answers the number stored, and leaves the page as stored
 abbrev pub answersRight : List ℕ → List ℕ → ℕ → List ℕ → Bool
 answersRight file call end page =
-    eqb (hostNumber file (numberAt 8 call 0) (numberAt 8 call tAt) (bufferOf page end)) (byteAt call answerAt)
-    && holds (pageWith page end (hostBuffer file (numberAt 8 call 0) (numberAt 8 call tAt) (bufferOf page end))) (storedValue call)
+    answerIsRight
+    (hostNumber file (numberAt 8 call 0) (numberAt 8 call tAt) (bufferOf page end))
+    (pageWith page end (hostBuffer file (numberAt 8 call 0) (numberAt 8 call tAt) (bufferOf page end)))
+    (storedAnswer call answerAt callBytes)
 
-unfoldable pub callIsRight : List ℕ → List ℕ → List ℕ → Bool
-callIsRight file call page =
-    cond (ltb (length call) callBytes) false
-    (cond (ltb (length page) (bufferEnd call)) false (answersRight file call (bufferEnd call) page))
+abbrev pub callIsRight : List ℕ → List ℕ → List ℕ → Bool
+callIsRight file call page = whereWhole callBytes call (bufferEnd call roomAt) page (answersRight file call (bufferEnd call roomAt) page)
+
+-- ---- a cell
+abbrev pub cellRoomAt : ℕ
+cellRoomAt = 1
+
+abbrev pub cellAnswerAt : ℕ
+cellAnswerAt = 2
+
+abbrev pub cellCallBytes : ℕ
+cellCallBytes = 20
+
+abbrev pub cellAnswersRight : List ℕ → List ℕ → ℕ → List ℕ → Bool
+cellAnswersRight file call end page =
+    answerIsRight
+    (hostCellNumber file (byteAt call 0) (bufferOf page end))
+    (pageWith page end (hostCellBuffer file (byteAt call 0) (bufferOf page end)))
+    (storedAnswer call cellAnswerAt cellCallBytes)
+
+abbrev pub cellCallIsRight : List ℕ → List ℕ → List ℕ → Bool
+cellCallIsRight file call page = whereWhole cellCallBytes call (bufferEnd call cellRoomAt) page (cellAnswersRight file call (bufferEnd call cellRoomAt) page)

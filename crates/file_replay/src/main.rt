@@ -1,8 +1,12 @@
-// Replays the stored map files, and says how many came out right: the text of each, and what the C call answers with it. oracle/README.md has the format of data/cases.
+// Replays the stored map files, and says how many came out right: the text of each, and what the C calls answer with it. oracle/README.md has the format of data/cases.
+ghost use Prim.Native.Nat.{_≤_};
+
 mod judge;
 
 use crate::judge::CALL_BYTES;
+use crate::judge::CELL_CALL_BYTES;
 use crate::judge::call_is_right;
+use crate::judge::cell_call_is_right;
 use crate::judge::text_is_right;
 use big_endian::after;
 use big_endian::byte_at;
@@ -32,22 +36,56 @@ fn text_right(file: &[u8], text: &[u8]) -> bool {
     text_is_right(file, text, TEXT_END, &mut page)
 }
 
-fn call_right(file: &[u8], call: &[u8]) -> bool {
-    let mut page = [FILLER; CALL_PAGE];
-    call_is_right(file, call, &mut page)
+// The two C calls.
+enum HostCall {
+    SetPoint,
+    Cell,
 }
 
-// Whether all calls stored for a file are right, and nothing stands behind them.
-fn calls_right(file: &[u8], calls: &[u8]) -> bool {
+// A list of calls made: whether each answered what is stored, and how many bytes the list takes.
+struct CallsJudged {
+    right: bool,
+    bytes: usize,
+}
+
+fn call_bytes(kind: HostCall) -> usize
+    ensures { λ r. ⌜ r ≤ 50 ⌝ }
+{
+    match kind {
+        HostCall::SetPoint => CALL_BYTES,
+        HostCall::Cell => CELL_CALL_BYTES,
+    }
+}
+
+fn call_right(kind: HostCall, file: &[u8], call: &[u8]) -> bool {
+    let mut page = [FILLER; CALL_PAGE];
+    match kind {
+        HostCall::SetPoint => call_is_right(file, call, &mut page),
+        HostCall::Cell => cell_call_is_right(file, call, &mut page),
+    }
+}
+
+fn calls_judged(kind: HostCall, file: &[u8], calls: &[u8]) -> CallsJudged {
     let mut right = true;
     let mut left = wide(byte_at(calls, 0));
     let mut at: usize = 1;
     while 0 < left {
-        right = both(right, call_right(file, after(calls, at)));
-        at += CALL_BYTES;
+        right = both(right, call_right(kind, file, after(calls, at)));
+        at += call_bytes(kind);
         left -= 1;
     }
-    both(right, calls.len() == at)
+    CallsJudged { right, bytes: at }
+}
+
+// Whether all calls stored for a file are right, those for set-points and those for cells behind them, and nothing stands behind.
+fn calls_right(file: &[u8], calls: &[u8]) -> bool {
+    let set_points = calls_judged(HostCall::SetPoint, file, calls);
+    let behind = after(calls, set_points.bytes);
+    let cells = calls_judged(HostCall::Cell, file, behind);
+    both(
+        both(set_points.right, cells.right),
+        behind.len() == cells.bytes,
+    )
 }
 
 // Whether the text behind the file, and the calls behind that, are right.

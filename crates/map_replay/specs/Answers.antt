@@ -6,13 +6,17 @@ use mathlib.Core.List.{List, []}
 use lib.Dec.{eqb, ltb}
 use lib.Ieee.{Float, nan}
 use lib.ListN.{drop, getD, length}
+use Rattle.cells.specs.declared.CellAnswer.{CellAnswer}
+use Rattle.cells.specs.declared.CellAnswer.the-variants.{Is as Reaches, Refused as NotAsked}
 use Rattle.census.specs.Census.{countBelow, occurrences}
 use Rattle.census.specs.declared.census.Openings.{Openings}
 use Rattle.control_point.specs.Refusal.{refusalNumber}
 use Rattle.control_point.specs.Told.{outcomeNumber}
 use Rattle.control_point.specs.declared.refusal.Outcome.{Outcome}
 use Rattle.control_point.specs.declared.refusal.Outcome.the-variants.{Done as Settled, Refused as NotSettled}
-use Rattle.surface.specs.Evaluation.{noKnots, noPosition}
+use Rattle.grid_index.specs.Index.{noKnots}
+use Rattle.grid_index.specs.declared.Cell.{Cell}
+use Rattle.surface.specs.Evaluation.{noPosition}
 use Rattle.surface.specs.declared.evaluation.Evaluation.{Evaluation}
 use Rattle.surface.specs.declared.evaluation.EvaluationAnswer.{EvaluationAnswer}
 use Rattle.surface.specs.declared.evaluation.EvaluationAnswer.the-variants.{Is, Refused as NotEvaluated}
@@ -89,6 +93,15 @@ evaluationJudged (NotEvaluated refusal) call = record { right = eqb (byteAt call
 -- the knots of all listed points held against the number stored
 abbrev pub generationJudged : Outcome → List ℕ → Judged
 generationJudged outcome call = record { right = eqb (outcomeNumber outcome) (byteAt call 1); bytes = 2 }
+
+-- whether both words of a cell and their count are those that bytes begin with
+abbrev pub cellIsRight : Cell → List ℕ → Bool
+cellIsRight words bytes = (eqb (words .first) (numberAt 8 bytes 0) && eqb (words .second) (numberAt 8 bytes 8)) && eqb (words .count) (byteAt bytes 16)
+
+-- a cell held against its stored answer
+unfoldable pub cellJudged : CellAnswer → List ℕ → Judged
+cellJudged (Reaches words) call = record { right = eqb (byteAt call 2) 0 && cellIsRight words (drop 3 call); bytes = 20 }
+cellJudged (NotAsked refusal) call = record { right = eqb (byteAt call 2) (refusalNumber refusal); bytes = 3 }
 
 -- ---- openings, in any order
 -- whether a direction of a point stands in a list of openings as often as stored: once, or not at all

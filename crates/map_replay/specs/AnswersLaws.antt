@@ -12,7 +12,8 @@ use Rattle.census.specs.Census.{countBelow}
 use Rattle.census.specs.declared.census.Openings.{Openings}
 use Rattle.ray.specs.declared.knots.PointKnots.{PointKnots}
 use Rattle.stored_calls.specs.Points.{hasBits}
-use Rattle.surface.specs.Evaluation.{noKnots, noPosition}
+use Rattle.grid_index.specs.Index.{noKnots}
+use Rattle.surface.specs.Evaluation.{noPosition}
 use Rattle.big_endian.specs.BigEndian.{numberAt}
 use Rattle.t_mesh.specs.Tmesh.{listedIn}
 use Rattle.t_mesh.specs.declared.t_mesh.Position.{Position}

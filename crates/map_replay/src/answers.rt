@@ -4,14 +4,17 @@ ghost use mathlib.Core.Bool.{true, cond};
 ghost use Prim.Native.Nat.{_≤_};
 ghost use Rattle.census.specs.Census.{countBelow, occurrences};
 ghost use Rattle.t_mesh.specs.Tmesh.{listedIn};
-ghost use Rattle.map_replay.specs.Answers.{countsAreRight, insertionJudged, floatsAreRight, outcomeIsRight, bytesTaken, rayJudged, knotsJudged, valueIsRight, evaluationJudged, generationJudged};
+ghost use Rattle.map_replay.specs.Answers.{countsAreRight, insertionJudged, floatsAreRight, outcomeIsRight, bytesTaken, rayJudged, knotsJudged, valueIsRight, evaluationJudged, generationJudged, cellIsRight, cellJudged};
 ghost use Rattle.map_replay.specs.Answers.{standsRight, sidesStandRight, openingsStandRight, openingsJudged, flagIsAt, listingIsRight, positionIsRight, positionsAreRight, rowIsRight, rowsAreRight, shapeIsRight, keptAreRight, mapBytes, mapIsRight};
 use big_endian::after;
 use big_endian::byte_at;
+use big_endian::number_at;
 use big_endian::pair_at;
+use cells::CellAnswer;
 use census::census::Openings;
 use control_point::refusal::Outcome;
 use control_point::sides::wide;
+use grid_index::Cell;
 use insertion::insertion::InsertAnswer;
 use ray::knots::KnotsAnswer;
 use ray::knots::PointKnots;
@@ -161,6 +164,32 @@ pub fn judge_generation(outcome: Outcome, call: &[u8]) -> Judged
     Judged {
         right: outcome.number() == byte_at(call, 1),
         bytes: 2,
+    }
+}
+
+// Whether both words of a cell and their count are those that the bytes begin with.
+fn cell_is_right(words: Cell, bytes: &[u8]) -> bool
+    ensures { λ r. ⌜ r ≡ cellIsRight words (now (bytes .entry)) ⌝ }
+{
+    let first = words.first == number_at(bytes, 0);
+    let second = words.second == number_at(bytes, 8);
+    both(both(first, second), words.count == byte_at(bytes, 16))
+}
+
+// A cell: its number, and both words and their count.
+pub fn judge_cell(answer: CellAnswer, call: &[u8]) -> Judged
+    ensures { λ r. ⌜ r ≡ cellJudged answer (now (call .entry)) ⌝ }
+{
+    let number = byte_at(call, 2);
+    match answer {
+        CellAnswer::Is(words) => Judged {
+            right: both(number == 0, cell_is_right(words, after(call, 3))),
+            bytes: 20,
+        },
+        CellAnswer::Refused(refusal) => Judged {
+            right: number == refusal.number(),
+            bytes: 3,
+        },
     }
 }
 

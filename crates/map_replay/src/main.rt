@@ -5,6 +5,7 @@ ghost use Rattle.map_replay.specs.Answers.{positionAt};
 mod answers;
 
 use crate::answers::Judged;
+use crate::answers::judge_cell;
 use crate::answers::judge_evaluation;
 use crate::answers::judge_generation;
 use crate::answers::judge_insertion;
@@ -16,6 +17,7 @@ use big_endian::after;
 use big_endian::byte_at;
 use big_endian::float_at;
 use big_endian::pair_at;
+use cells::cell_points;
 use control_point::sides::wide;
 use control_point::small::closeness;
 use control_point::t_mesh_direction::TmeshDirection;
@@ -61,6 +63,8 @@ const OPENINGS: u8 = 5;
 const LENT: u8 = 6;
 
 const SET_POINT: u8 = 7;
+
+const CELL: u8 = 8;
 
 // The first of the kinds that are direct calls.
 const DIRECT: u8 = 16;
@@ -120,6 +124,18 @@ fn replay_set_point(call: &[u8], map: Tmesh) -> MapReplayed {
     let answer = evaluated.answer;
     let judged = judge_evaluation(as_set_point(answer), call);
     let next = evaluated.map;
+    MapReplayed {
+        map: next,
+        right: judged.right,
+        bytes: judged.bytes,
+    }
+}
+
+fn replay_cell(call: &[u8], map: Tmesh) -> MapReplayed {
+    let asked = cell_points(map, byte_at(call, 1));
+    let answer = asked.answer;
+    let judged = judge_cell(answer, call);
+    let next = asked.map;
     MapReplayed {
         map: next,
         right: judged.right,
@@ -206,10 +222,13 @@ fn replay_direct(kind: u8, call: &[u8], map: Tmesh) -> MapReplayed {
     }
 }
 
-// A call that asks for a value, or builds the knots of all listed points.
+// A call that asks for a value or a cell, or builds the knots of all listed points.
 fn replay_value(kind: u8, call: &[u8], map: Tmesh) -> MapReplayed {
     if kind == SET_POINT {
         return replay_set_point(call, map);
+    }
+    if kind == CELL {
+        return replay_cell(call, map);
     }
     if kind == GENERATION {
         return replay_generation(call, map);

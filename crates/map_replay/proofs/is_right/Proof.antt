@@ -1,5 +1,6 @@
 -- `is_right` is safe and ends: each call leaves fewer to come, and ends within the list.
 use Prim.Native.Nat.{_≤_}
+use native.Mathlib.Omega.{arith}
 use lib.ListN.{length}
 use borrow.Author.Needs.{needs}
 use Rattle.map_replay.proofs.is_right.Statement.{statement}
@@ -42,7 +43,10 @@ both-requires : tie.Need-both-requires Inv-loop μ-loop
 both-requires c κs = search needs
 
 add-at : tie.Need-add-at Inv-loop μ-loop
-add-at c = search needs
+add-at c =
+    let within = c .before .before in
+    let l = within .before .before .before .before .before .before in
+    record { fits = omega (arith, within .if2 .left, l .loop .inv) }
 
 sub-left : tie.Need-sub-left Inv-loop μ-loop
 sub-left c = search needs

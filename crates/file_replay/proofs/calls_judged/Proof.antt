@@ -1,14 +1,14 @@
--- `calls_right` is safe and ends: each call leaves fewer to come, and 255 calls of 50 bytes end before 12,802.
+-- `calls_judged` is safe and ends: each call leaves fewer to come, and 255 calls of at most 50 bytes end before 12,802.
 use Prim.Native.Nat.{_+_, _*_, _≤_}
 use borrow.Author.Needs.{needs}
-use Rattle.file_replay.proofs.calls_right.Statement.{statement}
-use Rattle.file_replay.proofs.calls_right.Tie as tie
+use Rattle.file_replay.proofs.calls_judged.Statement.{statement}
+use Rattle.file_replay.proofs.calls_judged.Tie as tie
 
 abbrev Inv-loop : tie.InvT-loop
-Inv-loop file calls right₀ left₀ at₀ right left at = at + left * 50 ≤ 12801
+Inv-loop kind file calls right₀ left₀ at₀ right left at = at + left * 50 ≤ 12801
 
 abbrev μ-loop : tie.MeasureT-loop
-μ-loop file calls right₀ left₀ at₀ right left at = left
+μ-loop kind file calls right₀ left₀ at₀ right left at = left
 
 byte-at-requires : tie.Need-byte-at-requires Inv-loop μ-loop
 byte-at-requires c κs = search needs
@@ -28,6 +28,9 @@ call-right-requires c κs = search needs
 both-requires : tie.Need-both-requires Inv-loop μ-loop
 both-requires c κs = search needs
 
+call-bytes-requires : tie.Need-call-bytes-requires Inv-loop μ-loop
+call-bytes-requires c κs = search needs
+
 add-at : tie.Need-add-at Inv-loop μ-loop
 add-at c = search needs
 
@@ -40,14 +43,11 @@ loop-less c = search needs
 loop-again : tie.Need-loop-again Inv-loop μ-loop
 loop-again c = search needs
 
-both-requires-2 : tie.Need-both-requires-2 Inv-loop μ-loop
-both-requires-2 c κs = search needs
-
 returns : tie.Need-returns Inv-loop μ-loop
 returns c = search needs
 
-pub calls-right-spec : {M : Type 1} → statement M
-calls-right-spec =
+pub calls-judged-spec : {M : Type 1} → statement M
+calls-judged-spec =
     tie.close
     (tie.spec
     Inv-loop
@@ -58,9 +58,9 @@ calls-right-spec =
     after-requires
     call-right-requires
     both-requires
+    call-bytes-requires
     add-at
     sub-left
     loop-less
     loop-again
-    both-requires-2
     returns)
