@@ -4,7 +4,16 @@ use crate::random::Random;
 use crate::reading;
 use published::t_spline::basis_function;
 
-const CASES: usize = 4000;
+/// How many cases are drawn.
+const DRAWN: usize = 4000;
+
+/// Knots and a parameter where every term of a segment's sum is -0.0, and the sum, which starts at 0.0, is 0.0. The last knots are those of
+/// point 0 of a fresh map with border 0.0.
+const NEGATIVE_ZEROS: [([f64; 5], f64); 3] = [
+    ([0.0, 0.0, 1.0, -1.0, 1.0], 0.0),
+    ([0.0, 0.0, 1.0, -1.0, 1.0], -0.0),
+    ([0.0, 0.0, 0.0, 1.0, 1.0], -0.0),
+];
 
 /// Five knots of one kind. The kinds take turns, so that each has as many cases as the others.
 fn knots(random: &mut Random, kind: usize) -> [f64; 5] {
@@ -78,12 +87,16 @@ fn parameter(random: &mut Random, a: &[f64; 5]) -> f64 {
 /// Five knots, a parameter and the answer.
 pub type Case = ([f64; 5], f64, f64);
 
-fn draw(random: &mut Random, kind: usize) -> Case {
-    let a = knots(random, kind);
-    let u = parameter(random, &a);
+fn answered(a: [f64; 5], u: f64) -> Case {
     let answer = basis_function(u, &a);
     assert_eq!(bits_of(answer), bits_of(reading::basis_function(u, &a)), "basis at {u} of {a:?}");
     (a, u, answer)
+}
+
+fn draw(random: &mut Random, kind: usize) -> Case {
+    let a = knots(random, kind);
+    let u = parameter(random, &a);
+    answered(a, u)
 }
 
 /// A case of a kind. Where the answer is 0.0 every second draw is made again, so that fewer cases lie outside the knots.
@@ -103,13 +116,13 @@ pub fn encoded((a, u, answer): Case) -> Vec<u8> {
     out.0
 }
 
-/// Writes the stored cases.
+/// Writes the stored cases: those drawn, then those of negative zeros.
 pub fn write(seed: u64) {
     let mut random = Random::new(seed);
     let mut out = Bytes::default();
     let mut kinds = [0; 5];
-    for place in 0..CASES {
-        let case = drawn(&mut random, place);
+    let cases = (0..DRAWN).map(|place| drawn(&mut random, place));
+    for case in cases.chain(NEGATIVE_ZEROS.map(|(a, u)| answered(a, u))) {
         kinds[kind_of(case.2)] += 1;
         out.0.extend(encoded(case));
     }

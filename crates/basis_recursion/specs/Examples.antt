@@ -1,4 +1,4 @@
--- Worked values of the basis function, each computed by the formula and by the recursion.
+-- Worked values of the basis function, each computed by the formula and by the recursion; the last two in binary64, by the formula alone.
 use mathlib.Core.List.{List, [], _∷_}
 use mathlib.Core.Path.{_≡_, refl}
 use Prim.Native.Nat.{ℕ, suc}
@@ -60,3 +60,10 @@ pub plate-binary64 : formula binary64Arithmetic (ofBits binary64 0x3fe0_0000_000
     ≡ ofBits binary64 0x3fde_0000_0000_0000
 unfolding formula sumOfTerms ofBits Ieee.ofFields Ieee.add Ieee.sub Ieee.mul Ieee.div Ieee.lt Ieee.le Ieee.neg Ieee.sum Ieee.round Ieee.units Ieee.odd Ieee.size Ieee.span Ieee.climb
 plate-binary64 = refl
+
+-- Knots 0.0, 0.0, 1.0, -1.0, 1.0 at 0.0 give 0.0: the second segment's three terms are -0.0, and they are added to 0.0.
+pub negative-zeros : formula binary64Arithmetic (ofBits binary64 0)
+    (knots (ofBits binary64 0 ∷ ofBits binary64 0 ∷ ofBits binary64 0x3ff0_0000_0000_0000 ∷ ofBits binary64 0xbff0_0000_0000_0000 ∷ ofBits binary64 0x3ff0_0000_0000_0000 ∷ []))
+    ≡ ofBits binary64 0
+unfolding formula sumOfTerms ofBits Ieee.ofFields Ieee.add Ieee.sub Ieee.mul Ieee.div Ieee.lt Ieee.le Ieee.neg Ieee.sum Ieee.round Ieee.units Ieee.odd Ieee.size Ieee.span Ieee.climb
+negative-zeros = refl
