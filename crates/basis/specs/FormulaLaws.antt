@@ -1,8 +1,10 @@
--- What the formula comes to by the outcome of its tests: each law follows the tests down to its case.
-use mathlib.Core.Path.{_≡_}
+-- What the formula comes to by the outcome of its tests: each law follows the tests down to its case; and that it reads only the five knots.
+use mathlib.Core.Path.{_≡_, refl}
 use mathlib.Core.Bool.{true, false}
+use mathlib.Core.List.{[], _∷_}
 use Prim.Native.Nat.{ℕ}
-use Rattle.basis.specs.Formula.{Arithmetic, formula, firstSegment, secondSegment, thirdSegment, lastSegment}
+use lib.ListN.{getD}
+use Rattle.basis.specs.Formula.{Arithmetic, sumOfTerms, formula, firstSegment, secondSegment, thirdSegment, lastSegment}
 
 module _ {F : Type 0} (arithmetic : Arithmetic F) (u : F) (a : ℕ → F) where
   pub below-knots : arithmetic .lt u (a 0) ≡ true → formula arithmetic u a ≡ arithmetic .zero
@@ -29,3 +31,9 @@ module _ {F : Type 0} (arithmetic : Arithmetic F) (u : F) (a : ℕ → F) where
     pub in-last : arithmetic .lt u (a 1) ≡ false → arithmetic .lt u (a 2) ≡ false → arithmetic .lt u (a 3) ≡ false → formula arithmetic u a ≡ lastSegment arithmetic u a
     unfolding formula
     in-last second third fourth = rw (start, end, second, third, fourth, formula)
+
+-- The formula reads only the five knots.
+pub five-knots : {F : Type 0} (arithmetic : Arithmetic F) (u : F) (a : ℕ → F) (past : F)
+    → formula arithmetic u (λ i. getD (a 0 ∷ a 1 ∷ a 2 ∷ a 3 ∷ a 4 ∷ []) i past) ≡ formula arithmetic u a
+unfolding formula sumOfTerms
+five-knots arithmetic u a past = refl

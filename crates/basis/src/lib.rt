@@ -1,103 +1,71 @@
-// The cubic B-spline basis function of a T-mesh, operation by operation as in the source's t_mesh/basis.rs: every quotient and sum rounds once, in
-// source order. A NaN, in u or in the knots, is compared as f64 does and goes through the formula.
+// The cubic B-spline basis function of a T-mesh, operation by operation as in the source's t_mesh/basis.rs, with its tables of terms written out:
+// every quotient and sum rounds once, in source order. A NaN, in u or in the knots, is compared as f64 does and goes through the formula.
+// The functions that `basis_function` rests on take the five knots one by one: a to e are the source's a[0] to a[4].
 ghost use mathlib.Core.Bool.{false, true};
+ghost use mathlib.Core.List.{[], _∷_};
 ghost use mathlib.Core.Path.{_≡_};
 ghost use Rattle.basis.specs.Binary64.{binary64Arithmetic, knots};
-ghost use Rattle.basis.specs.Formula.{falling, firstSegment, formula, lastSegment, quotient, rising, sumOfTerms, term};
-ghost use Rattle.basis.specs.Table.{NamesKnots, ThreeTerms};
+ghost use Rattle.basis.specs.Formula.{falling, firstSegment, formula, lastSegment, rising, sumOfTerms};
 
-// A row's term, with its middle factor given.
-fn quotient(u: f64, a: [f64; 5], row: [usize; 7], middle: f64) -> f64
-    requires { ⌜ NamesKnots row ⌝ }
-    ensures { λ r. ⌜ r ≡ quotient binary64Arithmetic u (knots a) middle row ⌝ }
+// The sum of the second segment's terms, for u between the second knot and the third: it starts at 0.0, so that three terms of -0.0 give 0.0.
+fn rising_sum(u: f64, a: f64, b: f64, c: f64, d: f64, e: f64) -> f64
+    ensures { λ r. ⌜ r ≡ sumOfTerms binary64Arithmetic u (knots (a ∷ b ∷ c ∷ d ∷ e ∷ [])) true rising ⌝ }
 {
-    ((u - a[row[0]]) * middle * (a[row[2]] - u))
-        / ((a[row[3]] - a[row[4]]) * (a[row[5]] - a[row[6]]))
+    0.0
+        + (u - a) * (u - a) * (c - u) / ((d - a) * (c - a))
+        + (u - a) * (u - b) * (d - u) / ((d - a) * (d - b))
+        + (u - b) * (u - b) * (e - u) / ((e - b) * (d - b))
 }
 
-// A row's term. Its middle factor is how far u lies above its knot in the rising table, and below it in the falling one.
-fn term(u: f64, a: [f64; 5], row: [usize; 7], rises: bool) -> f64
-    requires { ⌜ NamesKnots row ⌝ }
-    ensures { λ r. ⌜ r ≡ term binary64Arithmetic u (knots a) rises row ⌝ }
+// The sum of the third segment's terms, for u between the third knot and the fourth.
+fn falling_sum(u: f64, a: f64, b: f64, c: f64, d: f64, e: f64) -> f64
+    ensures { λ r. ⌜ r ≡ sumOfTerms binary64Arithmetic u (knots (a ∷ b ∷ c ∷ d ∷ e ∷ [])) false falling ⌝ }
 {
-    let knot = a[row[1]];
-    if rises {
-        quotient(u, a, row, u - knot)
-    } else {
-        quotient(u, a, row, knot - u)
-    }
-}
-
-// The terms of a table, added to 0.0 one by one.
-fn sum_of_terms(u: f64, a: [f64; 5], terms: [[usize; 7]; 3], rises: bool) -> f64
-    requires { ⌜ ThreeTerms terms ⌝ }
-    ensures { λ r. ⌜ r ≡ sumOfTerms binary64Arithmetic u (knots a) rises terms ⌝ }
-{
-    let mut sum = 0.0;
-    let mut i = 0usize;
-    while i < 3 {
-        sum = sum + term(u, a, terms[i], rises);
-        i += 1;
-    }
-    sum
-}
-
-// The second segment's terms.
-fn rising_sum(u: f64, a: [f64; 5]) -> f64
-    ensures { λ r. ⌜ r ≡ sumOfTerms binary64Arithmetic u (knots a) true rising ⌝ }
-{
-    let terms: [[usize; 7]; 3] = [
-        [0, 0, 2, 3, 0, 2, 0],
-        [0, 1, 3, 3, 0, 3, 1],
-        [1, 1, 4, 4, 1, 3, 1],
-    ];
-    sum_of_terms(u, a, terms, true)
-}
-
-// The third segment's terms.
-fn falling_sum(u: f64, a: [f64; 5]) -> f64
-    ensures { λ r. ⌜ r ≡ sumOfTerms binary64Arithmetic u (knots a) false falling ⌝ }
-{
-    let terms: [[usize; 7]; 3] = [
-        [0, 3, 3, 3, 0, 3, 1],
-        [1, 4, 3, 4, 1, 3, 1],
-        [2, 4, 4, 4, 1, 4, 2],
-    ];
-    sum_of_terms(u, a, terms, false)
+    0.0
+        + (u - a) * (d - u) * (d - u) / ((d - a) * (d - b))
+        + (u - b) * (e - u) * (d - u) / ((e - b) * (d - b))
+        + (u - c) * (e - u) * (e - u) / ((e - b) * (e - c))
 }
 
 // The first segment: u lies between the first knot and the second.
-fn first_segment(u: f64, a: [f64; 5]) -> f64
-    ensures { λ r. ⌜ r ≡ firstSegment binary64Arithmetic u (knots a) ⌝ }
+fn first_segment(u: f64, a: f64, b: f64, c: f64, d: f64, e: f64) -> f64
+    ensures { λ r. ⌜ r ≡ firstSegment binary64Arithmetic u (knots (a ∷ b ∷ c ∷ d ∷ e ∷ [])) ⌝ }
 {
-    let d = u - a[0];
-    d * d * d / ((a[3] - a[0]) * (a[2] - a[0]) * (a[1] - a[0]))
+    let distance = u - a;
+    distance * distance * distance / ((d - a) * (c - a) * (b - a))
 }
 
 // The last segment: u lies between the fourth knot and the fifth.
-fn last_segment(u: f64, a: [f64; 5]) -> f64
-    ensures { λ r. ⌜ r ≡ lastSegment binary64Arithmetic u (knots a) ⌝ }
+fn last_segment(u: f64, a: f64, b: f64, c: f64, d: f64, e: f64) -> f64
+    ensures { λ r. ⌜ r ≡ lastSegment binary64Arithmetic u (knots (a ∷ b ∷ c ∷ d ∷ e ∷ [])) ⌝ }
 {
-    let d = a[4] - u;
-    d * d * d / ((a[4] - a[1]) * (a[4] - a[2]) * (a[4] - a[3]))
+    let distance = e - u;
+    distance * distance * distance / ((e - b) * (e - c) * (e - d))
 }
 
-// The cubic B-spline basis function of five knots at u: 0.0 outside [a[0], a[4]), and a formula for each segment inside.
+// The basis function of the knots a to e at u: 0.0 outside [a, e), and a formula for each segment inside.
+fn basis_of_knots(u: f64, a: f64, b: f64, c: f64, d: f64, e: f64) -> f64
+    ensures { λ r. ⌜ r ≡ formula binary64Arithmetic u (knots (a ∷ b ∷ c ∷ d ∷ e ∷ [])) ⌝ }
+{
+    if u < a || e <= u {
+        return 0.0;
+    }
+    if u < b {
+        first_segment(u, a, b, c, d, e)
+    } else if u < c {
+        let scalar = 1.0 / (c - b);
+        scalar * rising_sum(u, a, b, c, d, e)
+    } else if u < d {
+        let scalar = 1.0 / (d - c);
+        scalar * falling_sum(u, a, b, c, d, e)
+    } else {
+        last_segment(u, a, b, c, d, e)
+    }
+}
+
+// The cubic B-spline basis function of five knots at u.
 pub fn basis_function(u: f64, a: [f64; 5]) -> f64
     ensures { λ r. ⌜ r ≡ formula binary64Arithmetic u (knots a) ⌝ }
 {
-    if u < a[0] || a[4] <= u {
-        return 0.0;
-    }
-    if u < a[1] {
-        first_segment(u, a)
-    } else if u < a[2] {
-        let scalar = 1.0 / (a[2] - a[1]);
-        scalar * rising_sum(u, a)
-    } else if u < a[3] {
-        let scalar = 1.0 / (a[3] - a[2]);
-        scalar * falling_sum(u, a)
-    } else {
-        last_segment(u, a)
-    }
+    basis_of_knots(u, a[0], a[1], a[2], a[3], a[4])
 }

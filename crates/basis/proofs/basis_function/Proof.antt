@@ -1,89 +1,40 @@
--- Each way out of the tests is a case of the formula, and each part has its contract.
-use mathlib.Core.Logic.{⊎-elim}
-use mathlib.Core.Path.{sym, ap, _∙_}
-use lib.Ieee.{binary64, mul, ofBits}
+-- The formula reads only the five knots.
+use mathlib.Core.Path.{_∙_}
 use Rattle.basis.specs.Binary64.{binary64Arithmetic}
-use Rattle.basis.specs.FormulaLaws.{below-knots, above-knots, in-first, in-second, in-third, in-last}
+use Rattle.basis.specs.FormulaLaws.{five-knots}
 use borrow.Author.Needs.{needs}
 use Rattle.basis.proofs.basis_function.Statement.{statement}
 use Rattle.basis.proofs.basis_function.Tie as tie
 
-array-read-if1 : tie.Need-array-read-if1
-array-read-if1 c = search needs
+array-read-basis-of-knots : tie.Need-array-read-basis-of-knots
+array-read-basis-of-knots c = search needs
 
-array-read-if2 : tie.Need-array-read-if2
-array-read-if2 c = search needs
+array-read-basis-of-knots-2 : tie.Need-array-read-basis-of-knots-2
+array-read-basis-of-knots-2 c = search needs
+
+array-read-basis-of-knots-3 : tie.Need-array-read-basis-of-knots-3
+array-read-basis-of-knots-3 c = search needs
+
+array-read-basis-of-knots-4 : tie.Need-array-read-basis-of-knots-4
+array-read-basis-of-knots-4 c = search needs
+
+array-read-basis-of-knots-5 : tie.Need-array-read-basis-of-knots-5
+array-read-basis-of-knots-5 c = search needs
+
+basis-of-knots-requires : tie.Need-basis-of-knots-requires
+basis-of-knots-requires c κs = search needs
 
 returns : tie.Need-returns
-unfolding ofBits
-returns c = ⊎-elim (λ w. sym (below-knots binary64Arithmetic _ _ (w .taken))) (λ w. sym (above-knots binary64Arithmetic _ _ (search) (search))) (c .if1 .came)
-
-array-read-if3 : tie.Need-array-read-if3
-array-read-if3 c = search needs
-
-first-segment-requires : tie.Need-first-segment-requires
-first-segment-requires c κs = search needs
-
-array-read-if4 : tie.Need-array-read-if4
-array-read-if4 c = search needs
-
-array-read-scalar : tie.Need-array-read-scalar
-array-read-scalar c = search needs
-
-array-read-scalar-2 : tie.Need-array-read-scalar-2
-array-read-scalar-2 c = search needs
-
-rising-sum-requires : tie.Need-rising-sum-requires
-rising-sum-requires c κs = search needs
-
-array-read-if5 : tie.Need-array-read-if5
-array-read-if5 c = search needs
-
-array-read-scalar-3 : tie.Need-array-read-scalar-3
-array-read-scalar-3 c = search needs
-
-array-read-scalar-4 : tie.Need-array-read-scalar-4
-array-read-scalar-4 c = search needs
-
-falling-sum-requires : tie.Need-falling-sum-requires
-falling-sum-requires c κs = search needs
-
-last-segment-requires : tie.Need-last-segment-requires
-last-segment-requires c κs = search needs
-
-returns-2 : tie.Need-returns-2
-returns-2 c = c .first-segment .ensures ∙ sym (in-first binary64Arithmetic _ _ (search) (search) (search))
-
-returns-3 : tie.Need-returns-3
-unfolding ofBits
-returns-3 c = ap (mul binary64 _) (c .rising-sum .ensures) ∙ sym (in-second binary64Arithmetic _ _ (search) (search) (search) (search))
-
-returns-4 : tie.Need-returns-4
-unfolding ofBits
-returns-4 c = ap (mul binary64 _) (c .falling-sum .ensures) ∙ sym (in-third binary64Arithmetic _ _ (search) (search) (search) (search) (search))
-
-returns-5 : tie.Need-returns-5
-returns-5 c = c .last-segment .ensures ∙ sym (in-last binary64Arithmetic _ _ (search) (search) (search) (search) (search))
+returns c = c .basis-of-knots .ensures ∙ five-knots binary64Arithmetic _ _ _
 
 pub basis-function-spec : {M : Type 1} → statement M
 basis-function-spec =
     tie.close
     (tie.spec
-    array-read-if1
-    array-read-if2
-    returns
-    array-read-if3
-    first-segment-requires
-    array-read-if4
-    array-read-scalar
-    array-read-scalar-2
-    rising-sum-requires
-    array-read-if5
-    array-read-scalar-3
-    array-read-scalar-4
-    falling-sum-requires
-    last-segment-requires
-    returns-2
-    returns-3
-    returns-4
-    returns-5)
+    array-read-basis-of-knots
+    array-read-basis-of-knots-2
+    array-read-basis-of-knots-3
+    array-read-basis-of-knots-4
+    array-read-basis-of-knots-5
+    basis-of-knots-requires
+    returns)

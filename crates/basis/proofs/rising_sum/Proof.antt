@@ -1,15 +1,13 @@
--- The table's rows name knots, by the computed test.
+-- Going through the table row by row gives the terms that the code has written out.
 use mathlib.Core.Path.{refl}
-use borrow.Author.Needs.{needs}
-use Rattle.basis.proofs.Table.{three-terms}
+use lib.Ieee.{ofBits}
+use Rattle.basis.specs.Formula.{sumOfTerms}
 use Rattle.basis.proofs.rising_sum.Statement.{statement}
 use Rattle.basis.proofs.rising_sum.Tie as tie
 
-sum-of-terms-requires : tie.Need-sum-of-terms-requires
-sum-of-terms-requires c κs = three-terms _ refl tt
-
 returns : tie.Need-returns
-returns c = search needs
+unfolding ofBits sumOfTerms
+returns c = refl
 
 pub rising-sum-spec : {M : Type 1} → statement M
-rising-sum-spec = tie.close (tie.spec sum-of-terms-requires returns)
+rising-sum-spec = tie.close (tie.spec returns)
