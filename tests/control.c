@@ -1,10 +1,11 @@
 /*
- * control PROGRAM WORD CASES FOLDER: flips stored answers, and says how many flips of how many kinds of answers the program saw.
+ * control PROGRAM WORD CASES FOLDER: changes stored answers, and says how many changes of how many kinds of answers the program saw.
  *
  * PROGRAM replays the file `cases` of the folder that it is run in and says `right N wrong M`. CASES is its stored file, in the format of
  * WORD (basis, store, map or file; oracle/README.md has them). For each kind of answer the smallest case that has one is taken: alone it
- * must be right, and with any byte of that answer flipped it must be wrong. Among all cases, one that is flipped must be the only wrong
- * one. A case that is cut, at whatever length, or is a byte longer must be wrong. What PROGRAM is given is written in FOLDER.
+ * must be right, and with any byte of that answer flipped, or two openings exchanged, it must be wrong. Among all cases, one that is flipped
+ * must be the only wrong one. A case that is cut, at whatever length, or is a byte longer must be wrong. What PROGRAM is given is written in
+ * FOLDER.
  */
 #define _POSIX_C_SOURCE 200809L
 #include <stdarg.h>
@@ -15,7 +16,9 @@
 #include <sys/wait.h>
 #include <unistd.h>
 
-enum { MOST_PARTS = 1000, MOST_CASES = 100000, NAME_BYTES = 64, BASIS_BYTES = 56, SIDES = 4 };
+#define TWO_OPENINGS "openings: the first two"
+
+enum { MOST_PARTS = 1000, MOST_CASES = 100000, NAME_BYTES = 64, BASIS_BYTES = 56, OPENING_BYTES = 2, SIDES = 4 };
 
 /* ---- what is read */
 static const char *program, *folder;
@@ -35,7 +38,7 @@ static struct part {
 } parts[MOST_PARTS];
 static size_t part_count;
 
-static size_t flips;
+static size_t changes;
 
 static void fail(const char *words, ...)
 {
@@ -207,14 +210,22 @@ static void map_call(size_t *made)
     case 4:
         number("all knots");
         break;
-    case 5:
+    case 5: {
         answer(2, "openings: count");
-        for (size_t side = 0; side < *made * SIDES; side++) {
-            size_t open = byte();
+        now -= 2;
+        size_t openings = pair();
+        if (openings > 1) {
+            answer(2 * OPENING_BYTES, TWO_OPENINGS);
+            now -= 2 * OPENING_BYTES;
+        }
+        for (; openings > 0; openings--) {
+            answer(1, "openings: point");
+            size_t direction = byte();
             now--;
-            answer(1, "openings: direction %zu: %zu", side % SIDES, open);
+            answer(1, "openings: direction %zu", direction);
         }
         break;
+    }
     case 6:
         skip(16);
         value("lent value");
@@ -357,8 +368,8 @@ static const char *const map_parts[] = {
     "ray: entry 1", "ray: entry 5", "knots 0: number", "knots 3: number", "knots 4: number", "knots 9: number", "knots 11: number",
     "knots: s1", "knots: s5", "knots: t1", "knots: t5", "evaluation 0: number", "evaluation 3: number", "evaluation 4: number",
     "evaluation 9: number", "evaluation: x", "evaluation: y", "evaluation: z", "evaluation: weight", "all knots 0: number",
-    "all knots 3: number", "all knots 4: number", "all knots 9: number", "openings: count", "openings: direction 0: 0",
-    "openings: direction 0: 1", "openings: direction 3: 0", "openings: direction 3: 1", "lent value 0: number", "lent value 4: number",
+    "all knots 3: number", "all knots 4: number", "all knots 9: number", "openings: count", "openings: point", "openings: direction 0",
+    "openings: direction 1", "openings: direction 2", "openings: direction 3", TWO_OPENINGS, "lent value 0: number", "lent value 4: number",
     "lent value: x", "lent value: weight", "set-point 0: number", "set-point 4: number", "set-point 15: number", "set-point: x",
     "set-point: weight", "cell 0: number", "cell 3: number", "cell 4: number", "cell 9: number", "cell: first word", "cell: second word",
     "cell: count", "point made 0: number", "connect 0: number", "remove_connection 0: number", "remove_edge_condition 0: number",
@@ -477,8 +488,22 @@ static void flip(const struct part *part)
             fail("'%s' of case %zu, its byte %zu flipped: it said '%.*s'", part->name, part->number, at - part->at,
                  (int)strcspn(said, "\n"), said);
         }
-        flips++;
+        changes++;
     }
+}
+
+/* The first two openings of a list, exchanged. */
+static void exchange(const struct part *part)
+{
+    uint8_t *alone = stored + cases[part->number].at;
+    uint8_t *first = alone + part->at, *second = first + OPENING_BYTES;
+    uint8_t kept[2 * OPENING_BYTES];
+    memcpy(kept, first, sizeof kept);
+    memcpy(first, kept + OPENING_BYTES, OPENING_BYTES);
+    memcpy(second, kept, OPENING_BYTES);
+    expect(alone, cases[part->number].bytes, 0, 1, part->name, part->number);
+    memcpy(first, kept, sizeof kept);
+    changes++;
 }
 
 /* All cases, with the last byte of one answer flipped. A length is left out: with another one what follows is read as another case. */
@@ -490,7 +515,7 @@ static void flip_among_all(const struct part *part)
     *place ^= 1;
     expect(stored, stored_bytes, case_count - 1, 1, part->name, part->number);
     *place ^= 1;
-    flips++;
+    changes++;
 }
 
 /* A case cut at every length, one byte longer, and a file that ends within a case. */
@@ -505,7 +530,7 @@ static void cut(const struct format *format, size_t number)
     memcpy(room, whole, bytes);
     room[bytes] = 0;
     expect(room, bytes + 1, 1, 1, "a byte behind", number);
-    flips += 2;
+    changes += 2;
     if (format->counted) {
         size_t count = bytes - 1;
         room[0] = (uint8_t)(count / 256);
@@ -519,7 +544,7 @@ static void cut(const struct format *format, size_t number)
             end += kept + 2;
         }
         expect(room, end, 0, bytes - 2, "cut at every length", number);
-        flips += bytes - 1;
+        changes += bytes - 1;
     }
     free(room);
 }
@@ -559,10 +584,12 @@ int main(int count, char **words)
     expect(stored, stored_bytes, case_count, 0, "all cases", 0);
     for (size_t n = 0; n < part_count; n++) {
         flip(&parts[n]);
+        if (strcmp(parts[n].name, TWO_OPENINGS) == 0)
+            exchange(&parts[n]);
         if (n % 10 == 1 || n + 1 == part_count)
             flip_among_all(&parts[n]);
     }
     cut(format, case_to_cut());
-    printf("%zu %zu\n", flips, part_count);
+    printf("%zu %zu\n", changes, part_count);
     return 0;
 }

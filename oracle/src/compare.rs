@@ -50,7 +50,7 @@ impl Tally {
         self.answers[kind][answer.number() as usize] += 1;
         match answer {
             MapAnswer::Inserted(Insertion::Done(counts) | Insertion::Torn(counts, _)) => self.inferred += counts.inferred as u64,
-            MapAnswer::Opened(_, openings) => self.openings += openings.len() as u64,
+            MapAnswer::Opened(openings) => self.openings += openings.len() as u64,
             MapAnswer::Evaluated(Ok(value)) => self.weighty += (value.weight > 0.0 && value.weight < f64::INFINITY) as u64,
             MapAnswer::Reached(listed, Ok(cell)) => {
                 self.missed += ((cell.count as usize) < *listed) as u64;

@@ -32,8 +32,8 @@ pub enum MapAnswer {
     Knotted(Result<Knots, u8>),
     Evaluated(Result<Value, u8>),
     Generated(Result<(), u8>),
-    /// How many points are made, and which of their sides are openings.
-    Opened(usize, Vec<(u8, usize)>),
+    /// The openings in their order, each a point and a direction.
+    Opened(Vec<(u8, usize)>),
     /// How many points are listed, and the cell.
     Reached(usize, Result<Cell, u8>),
     Direct(Answer),
@@ -99,7 +99,7 @@ impl Maps {
             MapCall::Evaluate { s, t } | MapCall::Lend { s, t } => MapAnswer::Evaluated(self.evaluate(s, t)),
             MapCall::SetPoint { s, t } => MapAnswer::Evaluated(self.evaluate(s, t).and_then(Value::set_point)),
             MapCall::Generate => MapAnswer::Generated(self.generate()),
-            MapCall::Openings => MapAnswer::Opened(self.made(), self.openings()),
+            MapCall::Openings => MapAnswer::Opened(self.openings()),
             MapCall::CellPoints { cell } => MapAnswer::Reached(self.reading.listed.len(), self.cell_points(cell)),
             MapCall::Direct(call) => MapAnswer::Direct(self.direct(call)),
         }
@@ -209,7 +209,7 @@ impl Maps {
         answer
     }
 
-    /// Each opening is an opening of the published point too, and no other side is.
+    /// The openings of the published points, read in the same order, are the same.
     fn openings(&self) -> Vec<(u8, usize)> {
         let openings = self.reading.store.openings();
         if self.followed {
@@ -293,11 +293,13 @@ pub fn put_map_call(out: &mut Bytes, call: MapCall) {
     }
 }
 
-/// The openings' bytes: how many there are, then for each side of each point made whether it is one.
-fn put_openings(out: &mut Bytes, made: usize, openings: &[(u8, usize)]) {
+/// The openings' bytes: how many there are, then the point and the direction of each.
+fn put_openings(out: &mut Bytes, openings: &[(u8, usize)]) {
     out.pair(openings.len() as u16);
-    let sides = (0..made as u8).flat_map(|n| (0..4).map(move |d| (n, d)));
-    sides.for_each(|side| out.byte(openings.contains(&side) as u8));
+    for &(n, d) in openings {
+        out.byte(n);
+        out.byte(d as u8);
+    }
 }
 
 /// A cell's bytes: both words and the count.
@@ -311,7 +313,7 @@ pub fn put_cell(out: &mut Bytes, cell: &Cell) {
 pub fn put_map_answer(out: &mut Bytes, answer: &MapAnswer) {
     match answer {
         MapAnswer::Direct(answer) => return put_answer(out, *answer),
-        MapAnswer::Opened(made, openings) => return put_openings(out, *made, openings),
+        MapAnswer::Opened(openings) => return put_openings(out, openings),
         _ => {}
     }
     out.byte(answer.number());

@@ -146,7 +146,7 @@ fn worked_examples(random: &mut Random) -> Vec<MapList> {
     infinite.call(MapCall::Direct(Call::Connect(3, 0, DOWN, f64::NAN)));
     insert(&mut infinite, random, &[(3, DOWN, 0.5), (0, UP, 1.0), (2, LEFT, 0.25)]);
     infinite.call(MapCall::Evaluate { s: 0.5, t: 0.5 });
-    let mut lists = vec![square(), fresh, at_one, torn, inferred, infinite, refused_knots(), no_knots(), full_line(random)];
+    let mut lists = vec![square(), fresh, at_one, torn, inferred, infinite, refused_knots(), no_knots(), full_line(random), all_open()];
     lists.extend([cells_kept(random), cells_refused(), cells_between(random), cells_of_grid(random)]);
     lists.extend(CELL_BORDERS.map(|border| cells_of_border(random, border)));
     lists
@@ -350,6 +350,27 @@ fn full_line(random: &mut Random) -> MapList {
     for cell in 0..LINES {
         list.call(MapCall::CellPoints { cell });
     }
+    list
+}
+
+/// The sides of a full store are opened, the last ones first: the openings are listed where one side is left, and where none is.
+fn all_open() -> MapList {
+    let mut list = square();
+    while list.maps.made() < CAPACITY {
+        assert_eq!(list.call(MapCall::Direct(Call::Make(1.0))).number(), 0);
+    }
+    for (point, direction) in (0..CAPACITY as u8).rev().flat_map(|n| [LEFT, DOWN, RIGHT, UP].map(|d| (n, d))) {
+        // The other end of a link is opened with it.
+        if list.maps.reading.store.side(point, direction).is_opening() {
+            continue;
+        }
+        if list.maps.reading.store.openings().len() + 1 == CAPACITY * 4 {
+            list.call(MapCall::Openings);
+        }
+        assert_eq!(list.call(MapCall::Direct(Call::RemoveConnection(point, direction))).number(), 0);
+    }
+    let MapAnswer::Opened(openings) = list.call(MapCall::Openings) else { unreachable!() };
+    assert_eq!(openings.len(), CAPACITY * 4);
     list
 }
 

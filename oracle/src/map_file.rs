@@ -139,7 +139,7 @@ pub fn bits(value: &Value) -> [u64; 4] {
     [x, y, z, value.weight].map(bits_of)
 }
 
-/// All that the program prints of a file. The order of openings is the port's: by point, then by direction.
+/// All that the program prints of a file.
 pub fn text(file: &[u8]) -> String {
     let mut run = match read(file) {
         Ok(file) => run(&file),

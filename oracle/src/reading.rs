@@ -173,7 +173,7 @@ impl Store {
         Ok(())
     }
 
-    /// The openings of the points made, each once.
+    /// The openings of the points made, by number, and for a point Up, Right, Down, Left (Ticket 3 of document 02).
     pub fn openings(&self) -> Vec<(u8, usize)> {
         let sides = (0..self.made() as u8).flat_map(|n| [UP, RIGHT, DOWN, LEFT].map(|d| (n, d)));
         sides.filter(|&(n, d)| self.side(n, d).is_opening()).collect()

@@ -1,3 +1,3 @@
-// What is counted and listed of a map.
+// What is counted of a map.
 pub mod census;
 pub mod counts;

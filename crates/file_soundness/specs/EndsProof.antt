@@ -14,6 +14,7 @@ use Rattle.map_format.specs.Format.{checkedFile}
 use Rattle.map_file.specs.Run.{fileMap, fileNumbers, setPointAt, checkedSetPoint, fileSetPoint}
 use Rattle.map_format.specs.declared.format.FileCheck.{FileCheck}
 use Rattle.map_format.specs.declared.format.FileCheck.the-variants.{Valid, Refused}
+use Rattle.openings.specs.Openings.{openingsOf}
 use Rattle.report_lines.specs.Lines.{editLines, countsLine, openLines, midLine}
 use Rattle.report.specs.Report.{half, checkedReport, reportOf}
 use Rattle.value_bytes.specs.Value.{valueBytes}
@@ -37,7 +38,7 @@ ends-agree file count room valid enough =
     let map = fileMap millionth file count in
     ap (checkedReport file) valid
     ∙ ap
-    (λ (answer : EvaluationAnswer). editLines 1 (fileNumbers millionth file count) ++ (countsLine (countsOf map) ++ (openLines (storeOf map) 512 ++ midLine answer)))
+    (λ (answer : EvaluationAnswer). editLines 1 (fileNumbers millionth file count) ++ (countsLine (countsOf map) ++ (openLines (openingsOf (storeOf map)) ++ midLine answer)))
     (sym (answer-at file count room valid enough))
 
 pub ends-refuse : EndsRefuse

@@ -20,6 +20,7 @@ use Rattle.map_format.specs.Format.{borderAt, editsAt, editCount, Edit, editsFr
 use Rattle.map_file.specs.Run.{cornerOf, fileMap, fileNumbers}
 use Rattle.map_format.specs.declared.format.FileCheck.the-variants.{Valid, Refused}
 use Rattle.report_text.specs.Text.{fileWord, newline, refusedText}
+use Rattle.openings.specs.Openings.{openingsOf}
 use Rattle.report_lines.specs.Lines.{editLines, countsLine, openLines, midLine}
 use Rattle.report.specs.Report.{reportOf}
 use Rattle.gatemap_host.specs.SetPoint.{hostAnswer, hostNumber, hostBuffer}
@@ -43,7 +44,7 @@ EndsAgree =
     → reportOf file
     ≡ editLines 1 (fileNumbers millionth file count)
     ++ (countsLine (countsOf (fileMap millionth file count))
-    ++ (openLines (storeOf (fileMap millionth file count)) 512 ++ midLine (hostAnswer file halfBits halfBits room)))
+    ++ (openLines (openingsOf (storeOf (fileMap millionth file count))) ++ midLine (hostAnswer file halfBits halfBits room)))
 
 -- Of a refused file the program prints `file refused N`, and the C call for a set-point returns that N at every place and leaves the buffer as it was, where it
 -- has room.

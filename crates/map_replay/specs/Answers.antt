@@ -8,14 +8,14 @@ use lib.Ieee.{Float, nan}
 use lib.ListN.{drop, getD, length}
 use Rattle.cells.specs.declared.CellAnswer.{CellAnswer}
 use Rattle.cells.specs.declared.CellAnswer.the-variants.{Is as Reaches, Refused as NotAsked}
-use Rattle.census.specs.Census.{countBelow, occurrences}
-use Rattle.census.specs.declared.census.Openings.{Openings}
+use Rattle.census.specs.Census.{countBelow}
 use Rattle.control_point.specs.Refusal.{refusalNumber}
 use Rattle.control_point.specs.Told.{outcomeNumber}
 use Rattle.control_point.specs.declared.refusal.Outcome.{Outcome}
 use Rattle.control_point.specs.declared.refusal.Outcome.the-variants.{Done as Settled, Refused as NotSettled}
 use Rattle.grid_index.specs.Index.{noKnots}
 use Rattle.grid_index.specs.declared.Cell.{Cell}
+use Rattle.openings.specs.declared.list.Openings.{Openings}
 use Rattle.surface.specs.Evaluation.{noPosition}
 use Rattle.surface.specs.declared.evaluation.Evaluation.{Evaluation}
 use Rattle.surface.specs.declared.evaluation.EvaluationAnswer.{EvaluationAnswer}
@@ -103,29 +103,27 @@ unfoldable pub cellJudged : CellAnswer → List ℕ → Judged
 cellJudged (Reaches words) call = record { right = eqb (byteAt call 2) 0 && cellIsRight words (drop 3 call); bytes = 20 }
 cellJudged (NotAsked refusal) call = record { right = eqb (byteAt call 2) (refusalNumber refusal); bytes = 3 }
 
--- ---- openings, in any order
--- whether a direction of a point stands in a list of openings as often as stored: once, or not at all
-abbrev pub standsRight : Openings → ℕ → ℕ → List ℕ → Bool
-standsRight openings n k bytes = eqb (occurrences openings n k) (byteAt bytes k)
+-- ---- the openings
+-- the byte at a place where so many are stored; behind them 0
+abbrev pub entryByte : ℕ → List ℕ → ℕ → ℕ
+entryByte stored bytes at = cond (ltb at stored) (byteAt bytes at) 0
 
-abbrev pub sidesStandRight : Openings → ℕ → List ℕ → Bool
-sidesStandRight openings n bytes =
-    (standsRight openings n 0 bytes && standsRight openings n 1 bytes) && (standsRight openings n 2 bytes && standsRight openings n 3 bytes)
+-- whether an entry of a list of openings is the stored one, a point's number and a direction's, or 0 and 0 behind them
+abbrev pub entryIsRight : Openings → List ℕ → ℕ → Bool
+entryIsRight openings bytes i =
+    eqb (getD (openings .points) i 0) (entryByte (openings .count * 2) bytes (i * 2))
+    && eqb (getD (openings .directions) i 0) (entryByte (openings .count * 2) bytes (i * 2 + 1))
 
--- whether the four directions of each of the first so many points do
-unfoldable pub openingsStandRight : ℕ → Openings → List ℕ → Bool
-openingsStandRight zero openings bytes = true
-openingsStandRight (suc n) openings bytes = openingsStandRight n openings bytes && sidesStandRight openings n (drop (n * 4) bytes)
+-- whether the first so many are
+unfoldable pub entriesAreRight : ℕ → Openings → List ℕ → Bool
+entriesAreRight zero openings bytes = true
+entriesAreRight (suc i) openings bytes = entriesAreRight i openings bytes && entryIsRight openings bytes i
 
--- a list of openings held against the stored one: how many there are, and which
-abbrev pub openingsAreRight : Openings → ℕ → List ℕ → Bool
-openingsAreRight openings made call = eqb (openings .count) (numberAt 2 call 1) && openingsStandRight made openings (drop 3 call)
-
--- no list is longer than 512
-unfoldable pub openingsJudged : Openings → ℕ → List ℕ → Judged
-openingsJudged openings made call = record {
-  right = cond (ltb 512 (openings .count)) false (openingsAreRight openings made call);
-  bytes = made * 4 + 3;
+-- a list of openings held against the stored one: how many there are, which in which order, and zeros behind them in arrays of 512
+abbrev pub openingsJudged : Openings → List ℕ → Judged
+openingsJudged openings call = record {
+  right = eqb (openings .count) (numberAt 2 call 1) && entriesAreRight 512 openings (drop 3 call);
+  bytes = openings .count * 2 + 3;
 }
 
 -- ---- the map at a list's end

@@ -1,15 +1,14 @@
--- One float more, and one flag, point, position or row more, is held against the bytes that follow those before it. A map or a list of openings that is too
--- long is wrong.
+-- One float more, and one flag, entry, position or row more, is held against the bytes that follow those before it. A map that is too long is wrong.
 use Prim.Native.Nat.{ℕ, _+_, _*_, _<_, _≤_}
 use mathlib.Core.Bool.{Bool, true, false, cond, _&&_}
 use mathlib.Core.List.{List}
-use mathlib.Core.Path.{_≡_, refl}
+use mathlib.Core.Path.{_≡_, refl, ap}
 use native.Mathlib.Numerals.{add-one}
 use lib.Ieee.{Float, nan}
 use lib.ListN.{drop, getD}
 use borrow.Author.Tests.{lt-ltb, le-ltb}
 use Rattle.census.specs.Census.{countBelow}
-use Rattle.census.specs.declared.census.Openings.{Openings}
+use Rattle.openings.specs.declared.list.Openings.{Openings}
 use Rattle.ray.specs.declared.knots.PointKnots.{PointKnots}
 use Rattle.stored_calls.specs.Points.{hasBits}
 use Rattle.grid_index.specs.Index.{noKnots}
@@ -18,7 +17,7 @@ use Rattle.big_endian.specs.BigEndian.{numberAt}
 use Rattle.t_mesh.specs.Tmesh.{listedIn}
 use Rattle.t_mesh.specs.declared.t_mesh.Position.{Position}
 use Rattle.t_mesh.specs.declared.t_mesh.Tmesh.{Tmesh}
-use Rattle.map_replay.specs.Answers.{firstAreRight, sidesStandRight, openingsStandRight, openingsAreRight, openingsJudged, flagIsAt, listingIsRight, positionIsRight, positionsAreRight, rowIsRight, rowsAreRight, mapWithRoom, mapIsRight}
+use Rattle.map_replay.specs.Answers.{firstAreRight, entryIsRight, entriesAreRight, flagIsAt, listingIsRight, positionIsRight, positionsAreRight, rowIsRight, rowsAreRight, mapWithRoom, mapIsRight}
 
 -- no floats are the ones stored
 pub floats-none : (floats : List Float) (bytes : List ℕ) → firstAreRight 0 floats bytes ≡ true
@@ -42,28 +41,16 @@ pub listing-more :
 unfolding listingIsRight
 listing-more n listed bytes = rw add-one refl
 
--- no points' sides stand as stored
-pub stand-none : (openings : Openings) (bytes : List ℕ) → openingsStandRight 0 openings bytes ≡ true
-unfolding openingsStandRight
-stand-none openings bytes = refl
+-- no entries are the ones stored
+pub entries-none : (openings : Openings) (bytes : List ℕ) → entriesAreRight 0 openings bytes ≡ true
+unfolding entriesAreRight
+entries-none openings bytes = refl
 
-pub stand-more :
-    (n : ℕ) (openings : Openings) (bytes : List ℕ) →
-    openingsStandRight (n + 1) openings bytes ≡ (openingsStandRight n openings bytes && sidesStandRight openings n (drop (n * 4) bytes))
-unfolding openingsStandRight
-stand-more n openings bytes = rw add-one refl
-
-pub openings-too-many :
-    (openings : Openings) (made : ℕ) (call : List ℕ) → 512 < openings .count →
-    openingsJudged openings made call ≡ record { right = false; bytes = made * 4 + 3 }
-unfolding openingsJudged
-openings-too-many openings made call many = rw (lt-ltb 512 (openings .count) many) refl
-
-pub openings-few :
-    (openings : Openings) (made : ℕ) (call : List ℕ) → openings .count ≤ 512 →
-    openingsJudged openings made call ≡ record { right = openingsAreRight openings made call; bytes = made * 4 + 3 }
-unfolding openingsJudged
-openings-few openings made call few = rw (le-ltb 512 (openings .count) few) refl
+pub entries-more :
+    (i : ℕ) (openings : Openings) (bytes : List ℕ) →
+    entriesAreRight (i + 1) openings bytes ≡ (entriesAreRight i openings bytes && entryIsRight openings bytes i)
+unfolding entriesAreRight
+entries-more i openings bytes = ap (λ (n : ℕ). entriesAreRight n openings bytes) (add-one i)
 
 -- no positions are the ones stored
 pub positions-none : (positions : List Position) (bytes : List ℕ) → positionsAreRight 0 positions bytes ≡ true

@@ -2,20 +2,20 @@
 ghost use mathlib.Core.Path.{_≡_};
 ghost use mathlib.Core.Bool.{true, cond};
 ghost use Prim.Native.Nat.{_≤_};
-ghost use Rattle.census.specs.Census.{countBelow, occurrences};
+ghost use Rattle.census.specs.Census.{countBelow};
 ghost use Rattle.t_mesh.specs.Tmesh.{listedIn};
 ghost use Rattle.map_replay.specs.Answers.{countsAreRight, insertionJudged, floatsAreRight, outcomeIsRight, bytesTaken, rayJudged, knotsJudged, valueIsRight, evaluationJudged, generationJudged, cellIsRight, cellJudged};
-ghost use Rattle.map_replay.specs.Answers.{standsRight, sidesStandRight, openingsStandRight, openingsJudged, flagIsAt, listingIsRight, positionIsRight, positionsAreRight, rowIsRight, rowsAreRight, shapeIsRight, keptAreRight, mapBytes, mapIsRight};
+ghost use Rattle.map_replay.specs.Answers.{entryByte, entriesAreRight, openingsJudged, flagIsAt, listingIsRight, positionIsRight, positionsAreRight, rowIsRight, rowsAreRight, shapeIsRight, keptAreRight, mapBytes, mapIsRight};
 use big_endian::after;
 use big_endian::byte_at;
 use big_endian::number_at;
 use big_endian::pair_at;
 use cells::CellAnswer;
-use census::census::Openings;
 use control_point::refusal::Outcome;
 use control_point::sides::wide;
 use grid_index::Cell;
 use insertion::insertion::InsertAnswer;
+use openings::list::Openings;
 use ray::knots::KnotsAnswer;
 use ray::knots::PointKnots;
 use store::store::Store;
@@ -31,8 +31,8 @@ use t_mesh::t_mesh::store_of;
 
 const CAPACITY: u8 = 128;
 
-// No list of openings is longer.
-const MOST_OPENINGS: u16 = 512;
+// How many openings a list has room for.
+const OPENINGS_ROOM: usize = 512;
 
 const POSITION_BYTES: usize = 24;
 
@@ -203,76 +203,45 @@ fn one_where(holds: bool) -> usize
     0
 }
 
-// How often a side stands in a list of openings.
-fn times_listed(openings: Openings, n: u8, direction: u8) -> usize
-    requires { ⌜ openings .count ≤ 512 ⌝ }
-    ensures { λ r. ⌜ r ≡ occurrences openings n direction ⌝ }
+// The byte at a place where so many are stored; behind them 0.
+fn entry_byte(stored: usize, bytes: &[u8], at: usize) -> u8
+    ensures { λ r. ⌜ r ≡ entryByte stored (now (bytes .entry)) at ⌝ }
 {
-    let count = openings.count as usize;
-    let mut times: usize = 0;
-    let mut i: usize = 0;
-    while i < count {
-        let point = openings.points[i];
-        let side = openings.directions[i];
-        times += one_where(both(point == n, side == direction));
-        i += 1;
+    if at < stored {
+        return byte_at(bytes, at);
     }
-    times
+    0
 }
 
-// Whether a side stands as often as stored: once where it is an opening.
-fn stands_right(openings: Openings, n: u8, direction: u8, bytes: &[u8]) -> bool
-    requires { ⌜ openings .count ≤ 512 ⌝ }
-    ensures { λ r. ⌜ r ≡ standsRight openings n direction (now (bytes .entry)) ⌝ }
+// Whether each entry of a list of openings is the stored one.
+fn entries_are_right(openings: Openings, bytes: &[u8]) -> bool
+    ensures { λ r. ⌜ r ≡ entriesAreRight 512 openings (now (bytes .entry)) ⌝ }
 {
-    let stored = wide(byte_at(bytes, wide(direction)));
-    times_listed(openings, n, direction) == stored
-}
-
-fn sides_stand_right(openings: Openings, n: u8, bytes: &[u8]) -> bool
-    requires { ⌜ openings .count ≤ 512 ⌝ }
-    ensures { λ r. ⌜ r ≡ sidesStandRight openings n (now (bytes .entry)) ⌝ }
-{
-    let up = stands_right(openings, n, 0, bytes);
-    let right = stands_right(openings, n, 1, bytes);
-    let down = stands_right(openings, n, 2, bytes);
-    let left = stands_right(openings, n, 3, bytes);
-    both(both(up, right), both(down, left))
-}
-
-// Whether the sides of each point made stand as often as the bytes say.
-fn openings_stand_right(openings: Openings, made: u8, bytes: &[u8]) -> bool
-    requires { ⌜ openings .count ≤ 512 ⌝ }
-    ensures { λ r. ⌜ r ≡ openingsStandRight made openings (now (bytes .entry)) ⌝ }
-{
+    let stored = openings.count as usize * 2;
     let mut right = true;
-    let mut n: u8 = 0;
-    while n < made {
-        right = both(
-            right,
-            sides_stand_right(openings, n, after(bytes, wide(n) * 4)),
+    let mut i: usize = 0;
+    while i < OPENINGS_ROOM {
+        let point = openings.points[i];
+        let direction = openings.directions[i];
+        let own = both(
+            point == entry_byte(stored, bytes, i * 2),
+            direction == entry_byte(stored, bytes, i * 2 + 1),
         );
-        n += 1;
+        right = both(right, own);
+        i += 1;
     }
     right
 }
 
-// A list of openings, in any order: how many there are, and which.
-pub fn judge_openings(openings: Openings, made: u8, call: &[u8]) -> Judged
-    ensures { λ r. ⌜ r ≡ openingsJudged openings made (now (call .entry)) ⌝ }
+// A list of openings: how many there are, which in which order, and what stands behind them.
+pub fn judge_openings(openings: Openings, call: &[u8]) -> Judged
+    ensures { λ r. ⌜ r ≡ openingsJudged openings (now (call .entry)) ⌝ }
 {
-    let bytes = wide(made) * 4 + 3;
-    if MOST_OPENINGS < openings.count {
-        return Judged {
-            right: false,
-            bytes,
-        };
-    }
-    let counted = openings.count as usize == pair_at(call, 1);
-    let right = both(
-        counted,
-        openings_stand_right(openings, made, after(call, 3)),
-    );
+    let count = openings.count as usize;
+    let counted = count == pair_at(call, 1);
+    let entries = entries_are_right(openings, after(call, 3));
+    let right = both(counted, entries);
+    let bytes = count * 2 + 3;
     Judged { right, bytes }
 }
 

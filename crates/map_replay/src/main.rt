@@ -201,8 +201,7 @@ fn replay_reading(kind: u8, call: &[u8], store: Store) -> Judged {
         return replay_ray(call, store);
     }
     if kind == OPENINGS {
-        let made = store.made;
-        return judge_openings(openings(store), made, call);
+        return judge_openings(openings(store), call);
     }
     judge_knots(
         point_knot_vectors(closeness(), store, byte_at(call, 1)),

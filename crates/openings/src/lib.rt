@@ -1,2 +1,3 @@
 // The openings of a store, listed.
+pub mod list;
 pub mod openings;

@@ -1,5 +1,5 @@
 -- How long the parts of a report are at most: a number has at most four digits, so each line is short, and there are as many lines as edits and sides at most.
-use Prim.Native.Nat.{ℕ, zero, suc, _+_, _*_, _/_, _%_, _≤_}
+use Prim.Native.Nat.{ℕ, zero, suc, _+_, _*_, _≤_}
 use mathlib.Core.Path.{_≡_, refl, ap, _∙_}
 use mathlib.Core.Bool.{Bool, true, false, cond}
 use mathlib.Core.List.{List, [], _∷_, _++_}
@@ -8,15 +8,14 @@ use lib.Dec.{lit≤, ltb, eqb}
 use lib.Ieee.{Float}
 use lib.ListN.{length, length-append}
 use Rattle.control_point.specs.Refusal.{refusalNumber}
-use Rattle.store.specs.declared.store.Store.{Store}
 use Rattle.t_mesh.specs.declared.t_mesh.Tmesh.{Tmesh}
 use Rattle.surface.specs.declared.evaluation.EvaluationAnswer.{EvaluationAnswer}
 use Rattle.surface.specs.declared.evaluation.EvaluationAnswer.the-variants.{Is, Refused as NotEvaluated}
-use Rattle.census.specs.Census.{isOpen}
 use Rattle.census.specs.declared.census.Counts.{Counts}
+use Rattle.openings.specs.Openings.{PointSide, pointEntry, directionEntry}
 use Rattle.map_format.specs.Format.{editsAt, editBytes, Edit, editsFrom}
 use Rattle.map_file.specs.Run.{edited, freshMap, editNumbers, fileNumbers}
-use Rattle.report_text.specs.Text.{editWord, openWord, newline, decimal, numberText, bitsText, refusedText}
+use Rattle.report_text.specs.Text.{editWord, newline, decimal, numberText, bitsText, refusedText}
 use Rattle.report_lines.specs.Lines.{editLine, editLines, countsLine, openLine, openLines, midText, midLine}
 
 -- ---- numbers
@@ -36,10 +35,6 @@ bits-length value = refl
 
 -- ---- lines
 -- a line that is there or not
-maybe-few : (test : Bool) (line : List ℕ) (most : ℕ) → length line ≤ most → length (cond test line []) ≤ most
-maybe-few true line most few = few
-maybe-few false line most few = omega arith
-
 unless-few : (test : Bool) (line : List ℕ) (most : ℕ) → length line ≤ most → length (cond test [] line) ≤ most
 unless-few true line most few = omega arith
 unless-few false line most few = few
@@ -58,17 +53,16 @@ edit-lines-few k (n ∷ rest) =
 pub counts-line-few : (counts : Counts) → length (countsLine counts) ≤ 33
 counts-line-few counts = simp length-append (omega (arith, decimal-few (counts .made), decimal-few (counts .listed), decimal-few (counts .links)))
 
-open-line-few : (store : Store) (n k : ℕ) → length (openLine store n k) ≤ 15
-open-line-few store n k =
-    maybe-few (isOpen store n k) (openWord ++ (numberText n ++ (numberText k ++ newline))) 15
-    (simp length-append (omega (arith, decimal-few n, decimal-few k)))
+open-line-few : (n k : ℕ) → length (openLine n k) ≤ 15
+open-line-few n k = simp length-append (omega (arith, decimal-few n, decimal-few k))
 
-pub open-lines-few : (store : Store) (place : ℕ) → length (openLines store place) ≤ 15 * place
+pub open-lines-few : (sides : List PointSide) → length (openLines sides) ≤ 15 * length sides
 unfolding openLines
-open-lines-few store zero = lit≤ tt
-open-lines-few store (suc place) =
-    let line = openLine store (place / 4) (place % 4) in
-    omega (arith, length-append (openLines store place) line, open-lines-few store place, open-line-few store (place / 4) (place % 4))
+open-lines-few [] = lit≤ tt
+open-lines-few (side ∷ rest) =
+    let n = pointEntry side in
+    let k = directionEntry side in
+    omega (arith, length-append (openLine n k) (openLines rest), open-line-few n k, open-lines-few rest)
 
 mid-text-few : (answer : EvaluationAnswer) → length (midText answer) ≤ 68
 mid-text-few (Is value) =

@@ -1,5 +1,5 @@
 -- What the program `gatemap` prints of a map file, as the bytes of its text. A refused file: `file refused N`. Else a line `edit K refused N` for each refused edit, K from 1; the
--- counts; a line `open P D` for each opening of a made point; and `mid` with the bits of the set-point at (0.5, 0.5), position and weight, or `mid refused N`.
+-- counts; a line `open P D` for each opening of a made point, by point, and for a point Up, Right, Down, Left; and `mid` with the bits of the set-point at (0.5, 0.5), position and weight, or `mid refused N`.
 use Prim.Native.Nat.{ℕ}
 use mathlib.Core.List.{List, _++_}
 use lib.Ieee.{Float, binary64, ofBits}
@@ -13,6 +13,7 @@ use Rattle.map_format.specs.Format.{checkedFile}
 use Rattle.map_format.specs.declared.format.FileCheck.{FileCheck}
 use Rattle.map_format.specs.declared.format.FileCheck.the-variants.{Valid, Refused}
 use Rattle.map_file.specs.Run.{fileMap, fileNumbers, setPointAt}
+use Rattle.openings.specs.Openings.{openingsOf}
 use Rattle.report_text.specs.Text.{fileWord, newline, refusedText}
 use Rattle.report_lines.specs.Lines.{editLines, countsLine, openLines, midLine}
 
@@ -21,7 +22,7 @@ abbrev pub half : Float
 half = ofBits binary64 0x3fe0_0000_0000_0000
 
 abbrev pub mapReport : Tmesh → List ℕ
-mapReport map = countsLine (countsOf map) ++ (openLines (storeOf map) 512 ++ midLine (setPointAt millionth map half half))
+mapReport map = countsLine (countsOf map) ++ (openLines (openingsOf (storeOf map)) ++ midLine (setPointAt millionth map half half))
 
 -- of a file with so many edits
 abbrev pub validReport : List ℕ → ℕ → List ℕ

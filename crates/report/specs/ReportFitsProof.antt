@@ -14,6 +14,8 @@ use Rattle.map_format.specs.FormatLaws.{valid-tells}
 use Rattle.map_file.specs.Run.{fileMap, fileNumbers, setPointAt}
 use Rattle.map_format.specs.declared.format.FileCheck.{FileCheck}
 use Rattle.map_format.specs.declared.format.FileCheck.the-variants.{Valid, Refused}
+use Rattle.openings.specs.Openings.{openingsOf}
+use Rattle.openings.specs.OpeningsProof.{few-openings}
 use Rattle.report_text.specs.Put.{mostBytes}
 use Rattle.report_text.specs.Text.{newline, refusedText}
 use Rattle.report_lines.specs.Lines.{countsLine, editLines, openLines, midLine}
@@ -24,9 +26,9 @@ use Rattle.report.specs.Theorems.{ReportFits}
 map-report-few : (map : Tmesh) → length (mapReport map) ≤ 7785
 map-report-few map =
     let counts = countsLine (countsOf map) in
-    let openings = openLines (storeOf map) 512 in
+    let openings = openLines (openingsOf (storeOf map)) in
     let mid = midLine (setPointAt millionth map half half) in
-    omega (arith, length-append counts (openings ++ mid), length-append openings mid, counts-line-few (countsOf map), open-lines-few (storeOf map) 512, mid-line-few (setPointAt millionth map half half))
+    omega (arith, length-append counts (openings ++ mid), length-append openings mid, counts-line-few (countsOf map), open-lines-few (openingsOf (storeOf map)), few-openings (storeOf map), mid-line-few (setPointAt millionth map half half))
 
 checked-fits : (file : List ℕ) (check : FileCheck) → checkedFile file ≡ check → length (checkedReport file check) ≤ mostBytes
 checked-fits file (Refused refusal) so = omega (arith, length-append (refusedText (refusalNumber refusal)) newline, refused-few (refusalNumber refusal))

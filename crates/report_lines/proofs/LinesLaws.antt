@@ -1,7 +1,6 @@
--- Laws of the lines of a report: each loop puts one line at a time, the edits' from the front of what is left, the openings' behind what is there.
-use Prim.Native.Nat.{ℕ, zero, suc, _+_, _-_, _/_, _%_, _≤_, _<_}
+-- Laws of the lines of a report: each loop puts one line at a time, from the front of what is left.
+use Prim.Native.Nat.{ℕ, _+_, _≤_, _<_}
 use mathlib.Core.Path.{_≡_, refl, sym, ap, _∙_}
-use mathlib.Core.Bool.{Bool, _&&_}
 use mathlib.Core.List.{List, [], _∷_, _++_}
 use native.Mathlib.Numerals.{add-one}
 use native.Mathlib.Omega.{arith}
@@ -9,13 +8,11 @@ use lib.ListN.{length, getD, drop, length-append, drop-of-length-le}
 use lib.Seq.{drop-cons}
 use Rattle.big_endian.specs.Written.{written}
 use Rattle.big_endian.specs.WrittenLaws.{written-append, length-written}
-use Rattle.control_point.specs.Direction.{directionNumbered}
-use Rattle.control_point.specs.Point.{isMade, isOpening, sideOf}
-use Rattle.store.specs.Store.{storePoint}
-use Rattle.store.specs.declared.store.Store.{Store}
-use Rattle.census.specs.CensusLaws.{open-of}
+use Rattle.openings.specs.Openings.{PointSide, directionEntry, openingsAnswer}
+use Rattle.openings.specs.OpeningsLaws.{noSide, answer-point, answer-direction}
+use Rattle.openings.specs.declared.list.Openings.{Openings}
 use Rattle.report_text.specs.Put.{Put, Fits}
-use Rattle.report_lines.specs.Lines.{editLine, editLines, sideLine, openLine, openLines}
+use Rattle.report_lines.specs.Lines.{editLine, editLines, openLine, openLines}
 
 -- ---- what is left of a text
 -- where the rest is put behind what the buffer has so far, the whole stands in it
@@ -64,36 +61,17 @@ pub edit-lines-none : (numbers : List ℕ) (k i : ℕ) → length numbers ≤ i 
 unfolding editLines
 edit-lines-none numbers k i past = ap (editLines k) (drop-of-length-le numbers {i = i} past)
 
--- ---- the openings
-pub open-lines-next : (store : Store) (place : ℕ) (opening : Bool) → place < 512
-    → opening ≡ (isMade (store .made) (place / 4) && isOpening (sideOf (storePoint store (place / 4)) (directionNumbered (place % 4))))
-    → openLines store place ++ sideLine opening (place / 4) (place % 4) ≡ openLines store (place + 1)
+-- ---- the openings: the answer of the call has their numbers, entry by entry
+pub open-lines-next : (sides : List PointSide) (list : Openings) (i : ℕ) → list ≡ openingsAnswer sides → i < length sides
+    → openLines (drop i sides) ≡ openLine (getD (list .points) i 0) (getD (list .directions) i 0) ++ openLines (drop (i + 1) sides)
 unfolding openLines
-open-lines-next store place opening inside so =
-    ap (λ (test : Bool). openLines store place ++ sideLine test (place / 4) (place % 4)) (so ∙ sym (open-of store (place / 4) (omega arith) (place % 4) (omega arith)))
-    ∙ ap (openLines store) (sym (add-one place))
+open-lines-next sides list i so inside =
+    let side = getD sides i noSide in
+    let rest = openLines (drop (i + 1) sides) in
+    ap openLines (drop-cons sides i noSide inside ∙ ap (λ (n : ℕ). side ∷ drop n sides) (sym (add-one i)))
+    ∙ ap (λ (n : ℕ). openLine n (directionEntry side) ++ rest) (sym (ap (λ (l : Openings). getD (l .points) i 0) so ∙ answer-point sides i inside))
+    ∙ ap (λ (k : ℕ). openLine (getD (list .points) i 0) k ++ rest) (sym (ap (λ (l : Openings). getD (l .directions) i 0) so ∙ answer-direction sides i inside))
 
-pub open-lines-none : (store : Store) → [] ≡ openLines store 0
+pub open-lines-none : (sides : List PointSide) (i : ℕ) → length sides ≤ i → openLines (drop i sides) ≡ []
 unfolding openLines
-open-lines-none store = refl
-
--- the lines of fewer places are no longer
-lines-fewer : (store : Store) (more place : ℕ) → length (openLines store place) ≤ length (openLines store (more + place))
-unfolding openLines
-lines-fewer store zero place = let none : zero + place ≡ place = omega arith in omega (arith, ap (λ (n : ℕ). length (openLines store n)) none)
-lines-fewer store (suc more) place =
-    let one : suc more + place ≡ suc (more + place) = omega (arith, add-one more, add-one (more + place)) in
-    let further = openLines store (more + place) in
-    let line = openLine store ((more + place) / 4) ((more + place) % 4) in
-    omega (arith, ap (λ (n : ℕ). length (openLines store n)) one, lines-fewer store more place, length-append further line)
-
-open-lines-fit : (store : Store) (place : ℕ) → place < 512 → length (openLines store (place + 1)) ≤ length (openLines store 512)
-open-lines-fit store place inside =
-    let whole : (512 - (place + 1)) + (place + 1) ≡ 512 = omega arith in
-    omega (arith, lines-fewer store (512 - (place + 1)) (place + 1), ap (λ (n : ℕ). length (openLines store n)) whole)
-
--- where all lines fit, the next one does
-pub open-line-fits : {before out : List ℕ} {at end : ℕ} (store : Store) (place : ℕ) (line : List ℕ) → place < 512 → Fits at (openLines store 512)
-    → Put before at (openLines store place) out end → openLines store place ++ line ≡ openLines store (place + 1) → Fits end line
-open-line-fits store place line inside fits put next =
-    omega (arith, put .ends, length-append (openLines store place) line, ap length next, open-lines-fit store place inside)
+open-lines-none sides i past = ap openLines (drop-of-length-le sides {i = i} past)

@@ -1,15 +1,14 @@
 -- The lines of a report, as the bytes of their text.
-use Prim.Native.Nat.{ℕ, zero, suc, _+_, _/_, _%_}
-use mathlib.Core.Bool.{Bool, cond}
+use Prim.Native.Nat.{ℕ, _+_}
+use mathlib.Core.Bool.{cond}
 use mathlib.Core.List.{List, [], _∷_, _++_}
 use lib.Dec.{eqb}
 use Rattle.control_point.specs.Refusal.{refusalNumber}
-use Rattle.store.specs.declared.store.Store.{Store}
 use Rattle.surface.specs.declared.evaluation.Evaluation.{Evaluation}
 use Rattle.surface.specs.declared.evaluation.EvaluationAnswer.{EvaluationAnswer}
 use Rattle.surface.specs.declared.evaluation.EvaluationAnswer.the-variants.{Is, Refused as NotEvaluated}
-use Rattle.census.specs.Census.{isOpen}
 use Rattle.census.specs.declared.census.Counts.{Counts}
+use Rattle.openings.specs.Openings.{PointSide, pointEntry, directionEntry}
 use Rattle.report_text.specs.Text.{editWord, madeWord, listedWord, linksWord, openWord, midWord, space, newline, numberText, bitsText, refusedText}
 
 -- `edit K refused N`, where the answer number is not 0
@@ -28,18 +27,14 @@ countsLine counts =
     ++ (numberText (counts .made)
     ++ (space ++ (listedWord ++ (numberText (counts .listed) ++ (space ++ (linksWord ++ (numberText (counts .links) ++ newline)))))))
 
--- `open P D`, where the side is an opening
-abbrev pub sideLine : Bool → ℕ → ℕ → List ℕ
-sideLine opening n k = cond opening (openWord ++ (numberText n ++ (numberText k ++ newline))) []
+-- `open P D`: the numbers of a point and of a direction
+abbrev pub openLine : ℕ → ℕ → List ℕ
+openLine n k = openWord ++ (numberText n ++ (numberText k ++ newline))
 
--- where it is one of a made point
-abbrev pub openLine : Store → ℕ → ℕ → List ℕ
-openLine store n k = sideLine (isOpen store n k) n k
-
--- of all sides below a place; a side's place is four times its point's number and its direction's
-unfoldable pub openLines : Store → ℕ → List ℕ
-openLines store zero = []
-openLines store (suc place) = openLines store place ++ openLine store (place / 4) (place % 4)
+-- of all sides of a list
+unfoldable pub openLines : List PointSide → List ℕ
+openLines [] = []
+openLines (side ∷ rest) = openLine (pointEntry side) (directionEntry side) ++ openLines rest
 
 -- `mid` and the set-point
 abbrev pub valueText : Evaluation → List ℕ

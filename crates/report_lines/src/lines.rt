@@ -2,11 +2,12 @@
 ghost use Prim.Native.Nat.{_<_, _≤_};
 ghost use lib.ListN.{length};
 ghost use Rattle.map_format.specs.Format.{mostEdits};
+ghost use Rattle.openings.specs.Openings.{openingsOf};
 ghost use Rattle.report_text.specs.Put.{Put, Fits};
 ghost use Rattle.report_text.specs.Text.{printedBelow};
-ghost use Rattle.report_lines.specs.Lines.{editLine, editLines, countsLine, sideLine, openLines, valueText, midText, midLine};
+ghost use Rattle.report_lines.specs.Lines.{editLine, editLines, countsLine, openLine, openLines, valueText, midText, midLine};
 use census::census::Counts;
-use openings::openings::is_open;
+use openings::openings::openings;
 use report_text::text::put_bits;
 use report_text::text::put_labelled;
 use report_text::text::put_number;
@@ -56,34 +57,30 @@ pub fn put_counts_line(out: &mut [u8], at: usize, counts: Counts) -> usize
     put_text(out, links, b"\n")
 }
 
-// The line of a side: none where it is no opening.
-fn put_open_line(out: &mut [u8], at: usize, opening: bool, n: u8, direction: u8) -> usize
-    requires { ⌜ Fits at (sideLine opening n direction) ⌝ }
-    ensures { λ r. ⌜ Put (now (out .entry)) at (sideLine opening n direction) (now (out .exit)) r ⌝ }
+// The line of an opening.
+fn put_open_line(out: &mut [u8], at: usize, n: u8, direction: u8) -> usize
+    requires { ⌜ Fits at (openLine n direction) ⌝ }
+    ensures { λ r. ⌜ Put (now (out .entry)) at (openLine n direction) (now (out .exit)) r ⌝ }
 {
-    if opening {
-        let point = put_labelled(out, at, b"open", n as u64);
-        let end = put_number(out, point, direction as u64);
-        return put_text(out, end, b"\n");
-    }
-    at
+    let point = put_labelled(out, at, b"open", n as u64);
+    let end = put_number(out, point, direction as u64);
+    put_text(out, end, b"\n")
 }
 
-// The lines of all openings. A side's place is four times its point's number and its direction's.
+// The lines of all openings, as they are listed.
 pub fn put_open_lines(out: &mut [u8], at: usize, store: Store) -> usize
-    requires { ⌜ Fits at (openLines store 512) ⌝ }
-    ensures { λ r. ⌜ Put (now (out .entry)) at (openLines store 512) (now (out .exit)) r ⌝ }
+    requires { ⌜ Fits at (openLines (openingsOf store)) ⌝ }
+    ensures { λ r. ⌜ Put (now (out .entry)) at (openLines (openingsOf store)) (now (out .exit)) r ⌝ }
 {
-    let made = store.made;
+    let list = openings(store);
+    let count = list.count as usize;
     let mut end = at;
-    let mut place: u16 = 0;
-    while place < 512 {
-        let n = (place / 4) as u8;
-        let point = store.points[n as usize];
-        let direction = (place % 4) as u8;
-        let opening = is_open(made, n, point, direction);
-        end = put_open_line(out, end, opening, n, direction);
-        place += 1;
+    let mut i: usize = 0;
+    while i < count {
+        let n = list.points[i];
+        let direction = list.directions[i];
+        end = put_open_line(out, end, n, direction);
+        i += 1;
     }
     end
 }

@@ -8,6 +8,7 @@ use Rattle.store.specs.declared.store.Store.{Store}
 use Rattle.t_mesh.specs.Tmesh.{storeOf}
 use Rattle.census.specs.Census.{countsOf}
 use Rattle.map_file.specs.Run.{setPointAt}
+use Rattle.openings.specs.Openings.{openingsOf}
 use Rattle.report_text.specs.Put.{Put, Fits}
 use Rattle.report_lines.specs.Lines.{countsLine, openLines, midLine}
 use Rattle.report.specs.Report.{half}
@@ -21,7 +22,7 @@ module _ (start : tie.Start) where
   counts-text = countsLine (countsOf (start .args .map))
 
   abbrev open-text : List ℕ
-  open-text = openLines (storeOf (start .args .map)) 512
+  open-text = openLines (openingsOf (storeOf (start .args .map)))
 
   abbrev mid-text : List ℕ
   mid-text = midLine (setPointAt millionth (start .args .map) half half)
@@ -54,13 +55,13 @@ put-open-lines-requires : tie.Need-put-open-lines-requires
 put-open-lines-requires c κs =
     let put = c .before .before .before .before in
     let start = put .before .before .before .before in
-    fits-as (put .put-counts-line .result) _ _ (ap (λ (store : Store). openLines store 512) (c .store-of .ensures))
+    fits-as (put .put-counts-line .result) _ _ (ap (λ (store : Store). openLines (openingsOf store)) (c .store-of .ensures))
     (fits-first (put .put-counts-line .result) (open-text start) (mid-text start) (room put))
 
 -- the openings put are those of the map's store
 opened : (c : tie.After-put-open-lines) → let put = c .before .before .before .before .before in
     Put (put .put-counts-line .last .0) (put .put-counts-line .result) (open-text (put .before .before .before .before)) (c .put-open-lines .last .0) (c .put-open-lines .result)
-opened c = put-as (ap (λ (store : Store). openLines store 512) (c .before .store-of .ensures)) (c .put-open-lines .ensures)
+opened c = put-as (ap (λ (store : Store). openLines (openingsOf store)) (c .before .store-of .ensures)) (c .put-open-lines .ensures)
 
 set-point-at-requires : tie.Need-set-point-at-requires
 set-point-at-requires c κs = search needs

@@ -1,64 +1,72 @@
--- `put_open_lines` meets its contract: at each turn the lines of the places passed are there.
-use Prim.Native.Nat.{ℕ, _+_, _-_, _/_, _%_, _≤_}
+-- `put_open_lines` meets its contract: at each turn the lines that are left, put behind what is there, give the whole, whichever sides the list is the answer of.
+use Prim.Native.Nat.{ℕ, _+_, _-_, _≤_}
+use mathlib.Core.Path.{_≡_, ap}
 use mathlib.Core.List.{List, _++_}
-use mathlib.Core.Path.{_≡_, ap, _∙_}
 use native.Mathlib.Omega.{arith}
-use lib.ListN.{length}
+use lib.ListN.{drop, getD}
 use borrow.Author.Needs.{needs}
-use Rattle.report_text.specs.Put.{Put}
-use Rattle.report_lines.specs.Lines.{sideLine, openLines}
-use Rattle.big_endian.specs.WrittenLaws.{length-written}
-use Rattle.report_text.proofs.PutLaws.{put-none, put-then, put-as}
-use Rattle.report_lines.proofs.LinesLaws.{open-lines-none, open-lines-next, open-line-fits}
+use Rattle.openings.specs.Openings.{PointSide, openingsOf, openingsAnswer}
+use Rattle.openings.specs.OpeningsLaws.{answer-count}
+use Rattle.openings.specs.OpeningsProof.{few-openings}
+use Rattle.openings.specs.declared.list.Openings.{Openings}
+use Rattle.report_lines.specs.Lines.{openLine, openLines}
+use Rattle.report_lines.proofs.LinesLaws.{Left, left-all, left-fits, left-next, left-none, left-length, open-lines-next, open-lines-none}
 use Rattle.report_lines.proofs.lines.put_open_lines.Statement.{statement}
 use Rattle.report_lines.proofs.lines.put_open_lines.Tie as tie
 
 abbrev Inv-loop : tie.InvT-loop
-Inv-loop out₀ at store made end₀ place₀ out end place = (place ≤ 512) × Put out₀ at (openLines store place) out end
+Inv-loop out₀ at list count end₀ i₀ out end i =
+    (i ≤ count)
+    × ((sides : List PointSide) → list ≡ openingsAnswer sides → Left out₀ at (openLines sides) out end (openLines (drop i sides)))
 
 abbrev μ-loop : tie.MeasureT-loop
-μ-loop out₀ at store made end₀ place₀ out end place = 512 - place
+μ-loop out₀ at list count end₀ i₀ out end i = count - i
 
--- the line that is put
-abbrev line : tie.After-is-open Inv-loop μ-loop → List ℕ
-line c = let l = c .before .before .before .loop in sideLine (c .is-open .result) (l .place / 4) (l .place % 4)
+-- the list is the answer of the store's openings, so there are few
+few : (c : tie.After-openings Inv-loop μ-loop) → c .openings .result .count ≤ 512
+few c =
+    let store = c .before .before .args .store in
+    omega (arith, ap (λ (list : Openings). list .count) (c .openings .ensures), answer-count (openingsOf store), few-openings store)
 
--- it is the next
-next : (c : tie.After-is-open Inv-loop μ-loop) → let l = c .before .before .before in
-    openLines (l .before .before .args .t3) (l .loop .place) ++ line c ≡ openLines (l .before .before .args .t3) (l .loop .place + 1)
-next c =
-    let l = c .before .before .before in
-    open-lines-next (l .before .before .args .t3) (l .loop .place) (c .is-open .result) (omega arith) (c .is-open .ensures)
+module _ (c : tie.In-loop Inv-loop μ-loop) where
+  abbrev list : Openings
+  list = c .before .before .openings .result
+
+  abbrev i : ℕ
+  i = c .before .loop .i
+
+  abbrev line : List ℕ
+  line = openLine (getD (list .points) i 0) (getD (list .directions) i 0)
+
+  -- the line that is put and those behind it are what is left
+  next : (sides : List PointSide) → list ≡ openingsAnswer sides → openLines (drop i sides) ≡ line ++ openLines (drop (i + 1) sides)
+  next sides so = open-lines-next sides list i so (omega (arith, ap (λ (answer : Openings). answer .count) so, answer-count sides))
+
+openings-requires : tie.Need-openings-requires Inv-loop μ-loop
+openings-requires c κs = search needs
+
+cast-count : tie.Need-cast-count Inv-loop μ-loop
+cast-count c = search needs
 
 loop-holds : tie.Need-loop-holds Inv-loop μ-loop
-loop-holds c = (search needs, put-as (open-lines-none _) (put-none _ _))
+loop-holds c = (search needs, λ (sides : List PointSide) so. left-all _ _ _)
 
-cast-n : tie.Need-cast-n Inv-loop μ-loop
-cast-n c = search needs
+element-copy-out-n : tie.Need-element-copy-out-n Inv-loop μ-loop
+element-copy-out-n c = omega (arith, few (c .before .before))
 
-cast-point : tie.Need-cast-point Inv-loop μ-loop
-cast-point c = search needs
-
-mul-point : tie.Need-mul-point Inv-loop μ-loop
-mul-point c = search needs
-
-element-copy-out-point : tie.Need-element-copy-out-point Inv-loop μ-loop
-element-copy-out-point c = search needs
-
-cast-direction : tie.Need-cast-direction Inv-loop μ-loop
-cast-direction c = search needs
-
-is-open-requires : tie.Need-is-open-requires Inv-loop μ-loop
-is-open-requires c κs = search needs
+element-copy-out-direction : tie.Need-element-copy-out-direction Inv-loop μ-loop
+element-copy-out-direction c = omega (arith, few (c .before .before .before))
 
 put-open-line-requires : tie.Need-put-open-line-requires Inv-loop μ-loop
 put-open-line-requires c κs =
-    let l = c .before .before .before .before in
-    let start = l .before .before in
-    open-line-fits (start .args .t3) (l .loop .place) (line (c .before)) (omega arith) (start .pre) (l .loop .inv .1) (next (c .before))
+    let test = c .before .before .before in
+    let opened = test .before .before in
+    let sides = openingsOf (opened .before .before .args .store) in
+    let so = opened .openings .ensures in
+    left-fits (test .before .loop .inv .1 sides so) (line test) (openLines (drop (i test + 1) sides)) (next test sides so) (opened .before .before .pre)
 
-add-place : tie.Need-add-place Inv-loop μ-loop
-add-place c = search needs
+add-i : tie.Need-add-i Inv-loop μ-loop
+add-i c = search needs
 
 loop-less : tie.Need-loop-less Inv-loop μ-loop
 loop-less c = search needs
@@ -66,17 +74,22 @@ loop-less c = search needs
 loop-again : tie.Need-loop-again Inv-loop μ-loop
 loop-again c =
     let put = c .before .before in
-    let test = put .before .before in
-    (omega arith, put-as (next test) (put-then (test .before .before .before .loop .inv .1) (put .put-open-line .ensures)))
+    let test = put .before .before .before .before in (
+      omega arith,
+      λ (sides : List PointSide) (so : list test ≡ openingsAnswer sides).
+          left-next (test .before .loop .inv .1 sides so) (openLines (drop (i test + 1) sides)) (next test sides so) (put .put-open-line .ensures),
+    )
 
 same-length : tie.Need-same-length Inv-loop μ-loop
-same-length c = ap length (c .before .loop .inv .1 .wrote) ∙ length-written _ _ _
+same-length c = left-length (c .before .loop .inv .1 _ (c .before .before .openings .ensures))
 
 returns : tie.Need-returns Inv-loop μ-loop
 returns c =
     let l = c .before in
-    let whole : l .loop .place ≡ 512 = omega arith in
-    put-as (ap (openLines (l .before .before .args .t3)) whole) (l .loop .inv .1)
+    let sides = openingsOf (l .before .before .before .args .store) in
+    let so = l .before .openings .ensures in
+    left-none (l .loop .inv .1 sides so)
+    (open-lines-none sides (l .loop .i) (omega (arith, ap (λ (answer : Openings). answer .count) so, answer-count sides)))
 
 pub put-open-lines-spec : {M : Type 1} → statement M
 put-open-lines-spec =
@@ -84,15 +97,13 @@ put-open-lines-spec =
     (tie.spec
     Inv-loop
     μ-loop
+    openings-requires
+    cast-count
     loop-holds
-    cast-n
-    cast-point
-    mul-point
-    element-copy-out-point
-    cast-direction
-    is-open-requires
+    element-copy-out-n
+    element-copy-out-direction
     put-open-line-requires
-    add-place
+    add-i
     loop-less
     loop-again
     same-length
