@@ -42,6 +42,14 @@ module _ (c : tie.In-loop Inv-loop μ-loop) where
   next : (sides : List PointSide) → list ≡ openingsAnswer sides → openLines (drop i sides) ≡ line ++ openLines (drop (i + 1) sides)
   next sides so = open-lines-next sides list i so (omega (arith, ap (λ (answer : Openings). answer .count) so, answer-count sides))
 
+-- so the rest is left once it is put
+put-next : (c : tie.After-put-open-line Inv-loop μ-loop) → let test = c .before .before .before .before in let start = test .before .before .before .before in
+    (sides : List PointSide) → list test ≡ openingsAnswer sides
+    → Left (start .args .out .now) (start .args .at) (openLines sides) (c .put-open-line .last .0) (c .put-open-line .result) (openLines (drop (i test + 1) sides))
+put-next c sides so =
+    let test = c .before .before .before .before in
+    left-next (test .before .loop .inv .1 sides so) (openLines (drop (i test + 1) sides)) (next test sides so) (c .put-open-line .ensures)
+
 openings-requires : tie.Need-openings-requires Inv-loop μ-loop
 openings-requires c κs = search needs
 
@@ -72,13 +80,7 @@ loop-less : tie.Need-loop-less Inv-loop μ-loop
 loop-less c = search needs
 
 loop-again : tie.Need-loop-again Inv-loop μ-loop
-loop-again c =
-    let put = c .before .before in
-    let test = put .before .before .before .before in (
-      omega arith,
-      λ (sides : List PointSide) (so : list test ≡ openingsAnswer sides).
-          left-next (test .before .loop .inv .1 sides so) (openLines (drop (i test + 1) sides)) (next test sides so) (put .put-open-line .ensures),
-    )
+loop-again c = (omega arith, put-next (c .before .before))
 
 same-length : tie.Need-same-length Inv-loop μ-loop
 same-length c = left-length (c .before .loop .inv .1 _ (c .before .before .openings .ensures))
