@@ -15,7 +15,8 @@ use Rattle.ray.specs.Ray.{rayFrom, rayOf}
 use Rattle.ray.specs.Knots.{knotsAt, pointKnotVectors}
 use Rattle.t_mesh.specs.Tmesh.{newTmesh}
 use Rattle.t_mesh.specs.Insertion.{addControlPoint}
-use Rattle.census.specs.Census.{countBelow, countsOf}
+use Rattle.counting.specs.Counting.{countBelow}
+use Rattle.census.specs.Census.{countsOf}
 use Rattle.calls.specs.Readings.{PlateReadings}
 
 pub plate-readings : PlateReadings

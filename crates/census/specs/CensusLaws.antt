@@ -1,43 +1,93 @@
--- Laws of counting the numbers that pass a test, and of the links that are counted.
-use Prim.Native.Nat.{ℕ, zero, suc, _+_, _<_, _≤_}
-use mathlib.Core.Path.{_≡_, refl, ap}
+-- Laws of counting sides point by point.
+use Prim.Native.Nat.{ℕ, _+_, _*_, _<_, _≤_}
+use mathlib.Core.Path.{_≡_, refl, ap, _∙_}
 use mathlib.Core.Bool.{Bool, true, false, cond, _&&_}
 use native.Mathlib.Omega.{arith}
-use native.Mathlib.Numerals.{add-one}
-use lib.Dec.{lit≤}
-use Rattle.control_point.specs.Point.{isMade, isLink, sideOf}
+use Rattle.counting.specs.Counting.{countBelow}
+use Rattle.counting.specs.CountLaws.{one-both, count-none, count-next, count-few}
+use Rattle.control_point.specs.Point.{isMade, isLink, isBorder, sideOf}
 use Rattle.control_point.specs.declared.t_mesh_control_point.Side.{Side}
 use Rattle.control_point.specs.declared.t_mesh_direction.TmeshDirection.{TmeshDirection}
+use Rattle.control_point.specs.declared.t_mesh_direction.TmeshDirection.the-variants.{Up, Right, Down, Left}
 use Rattle.store.specs.Store.{storePoint}
 use Rattle.store.specs.StoreLaws.{side-read}
 use Rattle.store.specs.declared.store.Store.{Store}
-use Rattle.census.specs.Census.{countBelow, hasLink}
+use Rattle.census.specs.Census.{hasSide, linksAhead, bordersAround}
 
-pub count-none : (test : ℕ → Bool) → countBelow 0 test ≡ 0
-unfolding countBelow
-count-none test = refl
+-- 1 for a side of a point that passes a test
+abbrev one : (Side → Bool) → Store → ℕ → TmeshDirection → ℕ
+one test store n d = cond (test (sideOf (storePoint store n) d)) 1 0
 
-count-next : (n : ℕ) (test : ℕ → Bool) → countBelow (n + 1) test ≡ countBelow n test + cond (test n) 1 0
-unfolding countBelow
-count-next n test = rw (add-one n)
+-- one point more, read of the store's points
+side-next : (test : Side → Bool) (store : Store) (d : TmeshDirection) (n : ℕ) → n < 128
+    → countBelow (n + 1) (hasSide test store d) ≡ countBelow n (hasSide test store d) + cond (isMade (store .made) n) (one test store n d) 0
+side-next test store d n h =
+    count-next n (hasSide test store d)
+    ∙ ap (λ (side : Side). countBelow n (hasSide test store d) + cond (isMade (store .made) n && test side) 1 0) (side-read store n d h)
+    ∙ ap (λ (more : ℕ). countBelow n (hasSide test store d) + more) (one-both (isMade (store .made) n) (test (sideOf (storePoint store n) d)))
 
-pub count-more : (n sum one : ℕ) (test : ℕ → Bool) → sum ≡ countBelow n test → one ≡ cond (test n) 1 0 → sum + one ≡ countBelow (n + 1) test
-count-more n sum one test s o = omega (arith, count-next n test)
+-- ---- the links that are counted at the points below one
+abbrev pub linksBelow : Store → ℕ → ℕ
+linksBelow store n = countBelow n (hasSide isLink store Up) + countBelow n (hasSide isLink store Right)
 
-one-few : (b : Bool) → cond {A = ℕ} b 1 0 ≤ 1
-one-few true = lit≤ tt
-one-few false = lit≤ tt
+pub links-none : (store : Store) → 0 ≡ linksBelow store 0
+links-none store = omega (arith, count-none (hasSide isLink store Up), count-none (hasSide isLink store Right))
 
-pub count-few : (n : ℕ) (test : ℕ → Bool) → countBelow n test ≤ n
-unfolding countBelow
-count-few zero test = lit≤ tt
-count-few (suc n) test = omega (arith, count-few n test, one-few (test n))
+pub links-few : (store : Store) (n : ℕ) → linksBelow store n ≤ 2 * n
+links-few store n = omega (arith, count-few n (hasSide isLink store Up), count-few n (hasSide isLink store Right))
 
-pub count-same : (n : ℕ) (f g : ℕ → Bool) → ((i : ℕ) → i < n → f i ≡ g i) → countBelow n f ≡ countBelow n g
-unfolding countBelow
-count-same zero f g h = refl
-count-same (suc n) f g h = rw (count-same n f g (λ (i : ℕ) (l : i < n). h i (omega arith)), h n (omega arith))
+two-apart : (b : Bool) (up right : ℕ) → cond b (up + right) 0 ≡ cond b up 0 + cond b right 0
+two-apart true up right = refl
+two-apart false up right = refl
 
--- a link, read of the store's points
-pub link-of : (store : Store) (n : ℕ) → n < 128 → (d : TmeshDirection) → hasLink store d n ≡ (isMade (store .made) n && isLink (sideOf (storePoint store n) d))
-link-of store n h d = ap (λ (side : Side). isMade (store .made) n && isLink side) (side-read store n d h)
+pub links-next : (store : Store) (n : ℕ) → n < 128 → (sum more : ℕ) → sum ≡ linksBelow store n
+    → more ≡ cond (isMade (store .made) n) (linksAhead (storePoint store n)) 0 → sum + more ≡ linksBelow store (n + 1)
+links-next store n h sum more s m =
+    omega (
+      arith,
+      side-next isLink store Up n h,
+      side-next isLink store Right n h,
+      two-apart (isMade (store .made) n) (one isLink store n Up) (one isLink store n Right),
+    )
+
+-- ---- their borders
+abbrev pub bordersBelow : Store → ℕ → ℕ
+bordersBelow store n =
+    countBelow n (hasSide isBorder store Up)
+    + (countBelow n (hasSide isBorder store Right) + (countBelow n (hasSide isBorder store Down) + countBelow n (hasSide isBorder store Left)))
+
+pub borders-none : (store : Store) → 0 ≡ bordersBelow store 0
+borders-none store =
+    omega (
+      arith,
+      count-none (hasSide isBorder store Up),
+      count-none (hasSide isBorder store Right),
+      count-none (hasSide isBorder store Down),
+      count-none (hasSide isBorder store Left),
+    )
+
+pub borders-few : (store : Store) (n : ℕ) → bordersBelow store n ≤ 4 * n
+borders-few store n =
+    omega (
+      arith,
+      count-few n (hasSide isBorder store Up),
+      count-few n (hasSide isBorder store Right),
+      count-few n (hasSide isBorder store Down),
+      count-few n (hasSide isBorder store Left),
+    )
+
+four-apart : (b : Bool) (up right down left : ℕ) → cond b (up + right + down + left) 0 ≡ cond b up 0 + cond b right 0 + cond b down 0 + cond b left 0
+four-apart true up right down left = refl
+four-apart false up right down left = refl
+
+pub borders-next : (store : Store) (n : ℕ) → n < 128 → (sum more : ℕ) → sum ≡ bordersBelow store n
+    → more ≡ cond (isMade (store .made) n) (bordersAround (storePoint store n)) 0 → sum + more ≡ bordersBelow store (n + 1)
+borders-next store n h sum more s m =
+    omega (
+      arith,
+      side-next isBorder store Up n h,
+      side-next isBorder store Right n h,
+      side-next isBorder store Down n h,
+      side-next isBorder store Left n h,
+      four-apart (isMade (store .made) n) (one isBorder store n Up) (one isBorder store n Right) (one isBorder store n Down) (one isBorder store n Left),
+    )

@@ -1,3 +1,2 @@
 pub mod Census
 pub mod CensusLaws
-pub mod PairLaws

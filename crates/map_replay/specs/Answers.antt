@@ -8,7 +8,7 @@ use lib.Ieee.{Float, nan}
 use lib.ListN.{drop, getD, length}
 use Rattle.cells.specs.declared.CellAnswer.{CellAnswer}
 use Rattle.cells.specs.declared.CellAnswer.the-variants.{Is as Reaches, Refused as NotAsked}
-use Rattle.census.specs.Census.{countBelow}
+use Rattle.counting.specs.Counting.{countBelow}
 use Rattle.control_point.specs.Refusal.{refusalNumber}
 use Rattle.control_point.specs.Told.{outcomeNumber}
 use Rattle.control_point.specs.declared.refusal.Outcome.{Outcome}

@@ -7,7 +7,7 @@ use native.Mathlib.Numerals.{add-one}
 use lib.Ieee.{Float, nan}
 use lib.ListN.{drop, getD}
 use borrow.Author.Tests.{lt-ltb, le-ltb}
-use Rattle.census.specs.Census.{countBelow}
+use Rattle.counting.specs.Counting.{countBelow}
 use Rattle.openings.specs.declared.list.Openings.{Openings}
 use Rattle.ray.specs.declared.knots.PointKnots.{PointKnots}
 use Rattle.stored_calls.specs.Points.{hasBits}

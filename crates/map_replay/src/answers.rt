@@ -2,7 +2,7 @@
 ghost use mathlib.Core.Path.{_≡_};
 ghost use mathlib.Core.Bool.{true, cond};
 ghost use Prim.Native.Nat.{_≤_};
-ghost use Rattle.census.specs.Census.{countBelow};
+ghost use Rattle.counting.specs.Counting.{countBelow};
 ghost use Rattle.t_mesh.specs.Tmesh.{listedIn};
 ghost use Rattle.map_replay.specs.Answers.{countsAreRight, insertionJudged, floatsAreRight, outcomeIsRight, bytesTaken, rayJudged, knotsJudged, valueIsRight, evaluationJudged, generationJudged, cellIsRight, cellJudged};
 ghost use Rattle.map_replay.specs.Answers.{entryByte, entriesAreRight, openingsJudged, flagIsAt, listingIsRight, positionIsRight, positionsAreRight, rowIsRight, rowsAreRight, shapeIsRight, keptAreRight, mapBytes, mapIsRight};

@@ -9,6 +9,7 @@ use borrow.Author.Tests.{ltb-true, ltb-false, eqb-true, eqb-false, eq-eqb, ne-eq
 use lib.Dec.{ltb, eqb}
 use lib.ListN.{length, getD, take, replicate, length-map, length-replicate, getD-replicate, List·getD-eq-default}
 use lib.Seq.{take-suc, take-length, getD-append-add}
+use Rattle.counting.specs.Counting.{countBelow}
 use Rattle.control_point.specs.Direction.{directionNumber, directionNumbered}
 use Rattle.control_point.specs.DirectionLaws.{number-small}
 use Rattle.store.specs.declared.store.Store.{Store}
@@ -71,7 +72,7 @@ module _ (sides : List PointSide) (n k : ℕ) where
     is-side i h = read i h ∙ ap (λ (j : ℕ). eqb n (getD sides i noSide .point) && eqb j (directionNumber (getD sides i noSide .direction))) (sym (number-numbered k few))
 
     as-often : (i : ℕ) → i ≤ length sides → entriesOf i answer n k ≡ occurrences side (take i sides)
-    unfolding entriesOf occurrences
+    unfolding countBelow occurrences
     as-often zero h = refl
     as-often (suc i) h =
         let inside : i < length sides = h in
@@ -94,7 +95,7 @@ module _ (sides : List PointSide) (n k : ℕ) where
         ∙ and-false (eqb n (entry .point))
 
     never : (i : ℕ) → i ≤ length sides → entriesOf i answer n k ≡ 0
-    unfolding entriesOf
+    unfolding countBelow
     never zero h = refl
     never (suc i) h = omega (arith, never i (omega (arith, h, add-one i)), ap (λ (b : Bool). cond {A = ℕ} b 1 0) (no-entry i h))
 

@@ -21,7 +21,7 @@ use Rattle.openings.specs.declared.list.Openings.{Openings}
 
 -- ---- the openings among some sides
 module _ (store : Store) where
-  open-append : (sides rest : List PointSide) → openAmong store (sides ++ rest) ≡ openAmong store sides ++ openAmong store rest
+  pub open-append : (sides rest : List PointSide) → openAmong store (sides ++ rest) ≡ openAmong store sides ++ openAmong store rest
   unfolding openAmong
   open-append [] rest = refl
   open-append (side ∷ sides) rest =

@@ -1,11 +1,12 @@
 -- Theorems on the list of openings, for every store: statements only.
-use Prim.Native.Nat.{ℕ, zero, suc, _+_, _<_, _≤_}
+use Prim.Native.Nat.{ℕ, _+_, _<_, _≤_}
 use mathlib.Core.Bool.{Bool, true, cond, _&&_}
 use mathlib.Core.List.{List, [], _∷_}
 use mathlib.Core.Logic.{_⊎_}
 use mathlib.Core.Path.{_≡_}
 use lib.Dec.{eqb, ltb}
 use lib.ListN.{length, getD}
+use Rattle.counting.specs.Counting.{countBelow}
 use Rattle.control_point.specs.Direction.{directionNumber, directionNumbered, sameDirection}
 use Rattle.control_point.specs.Point.{isMade}
 use Rattle.control_point.specs.declared.t_mesh_direction.TmeshDirection.{TmeshDirection}
@@ -46,9 +47,8 @@ InOrder (side ∷ rest) = BeforeEach side rest × InOrder rest
 
 -- ---- the answer of the call
 -- how often the numbers of a point and of a direction stand together among the first so many entries of an answer
-unfoldable pub entriesOf : ℕ → Openings → ℕ → ℕ → ℕ
-entriesOf zero answer n k = 0
-entriesOf (suc i) answer n k = entriesOf i answer n k + cond (eqb (getD (answer .points) i 0) n && eqb (getD (answer .directions) i 0) k) 1 0
+abbrev pub entriesOf : ℕ → Openings → ℕ → ℕ → ℕ
+entriesOf i answer n k = countBelow i (λ (j : ℕ). eqb (getD (answer .points) j 0) n && eqb (getD (answer .directions) j 0) k)
 
 -- there are at most 512 entries; the numbers of each opening of a made point stand among them once, and no others do; behind them stands 0
 pub record AnswersOpenings (store : Store) (answer : Openings) : Type 0 where

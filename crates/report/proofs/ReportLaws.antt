@@ -7,11 +7,12 @@ use native.Mathlib.Omega.{arith}
 use lib.ListN.{length, take, drop, set, replicate, length-replicate}
 use lib.Seq.{sets, sets-eq, take-append-seam}
 use Rattle.big_endian.specs.Written.{written}
+use Rattle.control_point.specs.Point.{isLink}
 use Rattle.control_point.specs.declared.t_mesh_direction.TmeshDirection.the-variants.{Up, Right}
 use Rattle.t_mesh.specs.Tmesh.{storeOf}
 use Rattle.t_mesh.specs.declared.t_mesh.Tmesh.{Tmesh}
-use Rattle.census.specs.Census.{hasLink, countsOf}
-use Rattle.census.specs.CensusLaws.{count-few}
+use Rattle.counting.specs.CountLaws.{count-few}
+use Rattle.census.specs.Census.{hasSide, countsOf}
 use Rattle.census.specs.declared.census.Counts.{Counts}
 use Rattle.map_format.specs.Format.{checkedFile}
 use Rattle.map_format.specs.declared.format.FileCheck.{FileCheck}
@@ -40,7 +41,7 @@ zeros-room count n few = omega (arith, length-replicate {A = ℕ} n 0)
 -- ---- the counts
 links-few : (map : Tmesh) → countsOf map .links < printedBelow
 unfolding countsOf
-links-few map = omega (arith, count-few 128 (hasLink (storeOf map) Up), count-few 128 (hasLink (storeOf map) Right))
+links-few map = omega (arith, count-few 128 (hasSide isLink (storeOf map) Up), count-few 128 (hasSide isLink (storeOf map) Right))
 
 pub counted-few : (map : Tmesh) (counts : Counts) → counts ≡ countsOf map → counts .links < printedBelow
 counted-few map counts so = omega (arith, links-few map, ap (λ (c : Counts). c .links) so)

@@ -19,11 +19,12 @@ use Rattle.store.specs.Store.{storeSides}
 use Rattle.store.specs.declared.store.Store.{Store}
 use Rattle.mirror.specs.BoolLaws.{both-ways, and-both}
 use Rattle.mirror.specs.Mirror.{Sound}
-use Rattle.census.specs.Census.{countBelow, hasLink, countsOf}
-use Rattle.census.specs.CensusLaws.{count-same}
-use Rattle.census.specs.PairLaws.{count-nothing, count-one, count-paired}
+use Rattle.counting.specs.Counting.{countBelow}
+use Rattle.counting.specs.CountLaws.{count-same, count-nothing, count-one}
+use Rattle.counting.specs.PairLaws.{count-paired}
+use Rattle.census.specs.Census.{hasSide, sidesTowards, sidesThat, countsOf}
 use Rattle.soundness.specs.EveryMapProof.{every-map-mirrored}
-use Rattle.soundness.specs.Theorems.{linkSides, LinkSidesAreTwice}
+use Rattle.soundness.specs.Theorems.{LinkSidesAreTwice}
 
 -- whether a side is a link to a point
 abbrev linksTo : Side → ℕ → Bool
@@ -77,19 +78,19 @@ module _ (store : Store) (sound : Sound store) where
   by-made d n false h = count-nothing 128 (λ (m : ℕ). false) (λ (i : ℕ) (l : i < 128). refl)
 
   -- the points that a point's side leads to
-  row : (d : TmeshDirection) (n : ℕ) → countBelow 128 (leads d n) ≡ cond (hasLink store d n) 1 0
+  row : (d : TmeshDirection) (n : ℕ) → countBelow 128 (leads d n) ≡ cond (hasSide isLink store d n) 1 0
   row d n = by-made d n (isMade (store .made) n) refl
 
   -- those whose side leads to it
-  column : (d : TmeshDirection) (m : ℕ) → countBelow 128 (λ (n : ℕ). leads d n m) ≡ cond (hasLink store (flipOf d) m) 1 0
+  column : (d : TmeshDirection) (m : ℕ) → countBelow 128 (λ (n : ℕ). leads d n m) ≡ cond (hasSide isLink store (flipOf d) m) 1 0
   column d m =
       count-same 128 (λ (n : ℕ). leads d n m) (leads (flipOf d) m) (λ (n : ℕ) (l : n < 128). mirror-image d n m) ∙ row (flipOf d) m
 
-  as-many : (d : TmeshDirection) → countBelow 128 (hasLink store d) ≡ countBelow 128 (hasLink store (flipOf d))
+  as-many : (d : TmeshDirection) → sidesTowards isLink store d ≡ sidesTowards isLink store (flipOf d)
   as-many d =
-      count-paired (leads d) 128 (hasLink store d) (hasLink store (flipOf d)) (λ (n : ℕ) (l : n < 128). row d n) (λ (m : ℕ) (l : m < 128). column d m)
+      count-paired (leads d) 128 (hasSide isLink store d) (hasSide isLink store (flipOf d)) (λ (n : ℕ) (l : n < 128). row d n) (λ (m : ℕ) (l : m < 128). column d m)
 
-  both-ends : linkSides store ≡ 2 * (countBelow 128 (hasLink store Up) + countBelow 128 (hasLink store Right))
+  both-ends : sidesThat isLink store ≡ 2 * (sidesTowards isLink store Up + sidesTowards isLink store Right)
   both-ends = omega (arith, as-many Up, as-many Right)
 
 pub link-sides-are-twice : LinkSidesAreTwice

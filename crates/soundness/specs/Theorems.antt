@@ -10,9 +10,10 @@ use mathlib.Core.Logic.{_⊎_}
 use lib.Dec.{eqb}
 use lib.Ieee.{Float, inf}
 use Rattle.float64.specs.Literals.{oneLiteral}
+use Rattle.control_point.specs.Point.{isLink}
 use Rattle.control_point.specs.Small.{millionth}
 use Rattle.control_point.specs.Told.{refusedBy}
-use Rattle.control_point.specs.declared.t_mesh_direction.TmeshDirection.the-variants.{Up, Right, Down, Left}
+use Rattle.control_point.specs.declared.t_mesh_direction.TmeshDirection.the-variants.{Right}
 use Rattle.mirror.specs.Calls.{Call as Direct, connect, remove-connection, runCalls}
 use Rattle.calls.specs.ExampleValues.{half}
 use Rattle.control_point.specs.Direction.{clockwiseOf, antiClockwiseOf}
@@ -38,7 +39,7 @@ use Rattle.surface.specs.Evaluation.{subsOf}
 use Rattle.surface.specs.declared.evaluation.EvaluationAnswer.the-variants.{Refused as NoValue}
 use Rattle.cells.specs.Cells.{cellPoints}
 use Rattle.cells.specs.declared.CellAnswer.the-variants.{Refused as NoWords}
-use Rattle.census.specs.Census.{countBelow, hasLink, countsOf}
+use Rattle.census.specs.Census.{sidesThat, countsOf}
 use Rattle.soundness.specs.MapCalls.{MapCall, generate-knot-vectors, direct, afterCall, mapAfterAll, directs, addsPoint, numberTo, pointsMade}
 
 -- ---- the maps
@@ -60,14 +61,9 @@ DirectCallsOnStore =
     (e : Float) (map : Tmesh) (calls : List Direct) → mapAfterAll e map (directs calls) ≡ withStore map (runCalls (storeOf map) calls)
 
 -- ---- the links counted
--- the link sides of made points, in all four directions
-abbrev pub linkSides : Store → ℕ
-linkSides store =
-    countBelow 128 (hasLink store Up) + countBelow 128 (hasLink store Right) + countBelow 128 (hasLink store Down) + countBelow 128 (hasLink store Left)
-
 -- Each link that is counted has two ends: the link sides of made points are twice the links.
 abbrev pub LinkSidesAreTwice : Type 0
-LinkSidesAreTwice = EveryMap (λ map. linkSides (storeOf map) ≡ 2 * countsOf map .links)
+LinkSidesAreTwice = EveryMap (λ map. sidesThat isLink (storeOf map) ≡ 2 * countsOf map .links)
 
 -- ---- the listing
 -- Each number that is listed is made.

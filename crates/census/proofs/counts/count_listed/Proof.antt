@@ -5,8 +5,8 @@ use mathlib.Core.Path.{_≡_, _∙_, sym, ap}
 use mathlib.Core.Bool.{Bool, false}
 use Prim.Native.Nat.{ℕ, _≤_, _-_, _+_}
 use lib.ListN.{getD}
-use Rattle.census.specs.Census.{countBelow}
-use Rattle.census.specs.CensusLaws.{count-none, count-more, count-few}
+use Rattle.counting.specs.Counting.{countBelow}
+use Rattle.counting.specs.CountLaws.{count-none, count-more, count-few}
 use Rattle.census.proofs.counts.count_listed.Statement.{statement}
 use Rattle.census.proofs.counts.count_listed.Tie as tie
 

@@ -4,8 +4,8 @@ use mathlib.Core.Bool.{Bool, cond}
 use mathlib.Core.Path.{_≡_, sym, ap, _∙_}
 use native.Mathlib.Omega.{arith}
 use borrow.Author.Needs.{needs}
-use Rattle.census.specs.Census.{countBelow}
-use Rattle.census.specs.CensusLaws.{count-none, count-more, count-few}
+use Rattle.counting.specs.Counting.{countBelow}
+use Rattle.counting.specs.CountLaws.{count-none, count-more, count-few}
 use Rattle.t_mesh.specs.Tmesh.{listedIn}
 use Rattle.map_replay.proofs.answers.listed_below.Statement.{statement}
 use Rattle.map_replay.proofs.answers.listed_below.Tie as tie

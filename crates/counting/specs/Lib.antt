@@ -1,0 +1,4 @@
+pub mod Counting
+pub mod CountLaws
+pub mod SumLaws
+pub mod PairLaws
