@@ -4,3 +4,4 @@ pub mod EndsProof
 pub mod NumbersProof
 pub mod FullStrokeProof
 pub mod CellProof
+pub mod LedgerProof

@@ -2,22 +2,26 @@
 -- gets is `hostNumber` and `hostBuffer`, and of a cell `hostCellNumber` and `hostCellBuffer`: the definitions that the contracts of the code cite.
 use Prim.Native.Nat.{ℕ, _<_, _≤_}
 use mathlib.Core.Path.{_≡_}
-use mathlib.Core.List.{List, [], _∷_, _++_}
+use mathlib.Core.List.{List, [], _∷_, _++_, map}
 use lib.Dec.{T}
-use lib.Ieee.{le}
+use lib.Ieee.{Float, le}
 use lib.ListN.{length}
 use Rattle.float64.specs.Sign.{0f}
 use Rattle.big_endian.specs.BigEndian.{numberAt, floatAt}
 use Rattle.control_point.specs.Refusal.{refusalNumber}
 use Rattle.control_point.specs.Small.{millionth}
 use Rattle.control_point.specs.declared.refusal.Refusal.{Refusal}
+use Rattle.insertion.specs.Insert.{answerNumber}
+use Rattle.insertion.specs.declared.insertion.InsertAnswer.{InsertAnswer}
 use Rattle.t_mesh.specs.Tmesh.{Axis, X, Y, Z, coordinate, storeOf}
 use Rattle.t_mesh.specs.declared.t_mesh.Tmesh.{Tmesh}
 use Rattle.census.specs.Census.{countsOf}
 use Rattle.calls.specs.FullStroke.{InUnit}
 use Rattle.soundness.specs.Theorems.{OneOf}
+use Rattle.ledger.specs.Ledger.{countsBy, openingsBy}
+use Rattle.ledger.specs.Theorem.{Ledger}
 use Rattle.map_format.specs.Format.{borderAt, editsAt, editCount, Edit, editsFrom, checkedFile}
-use Rattle.map_file.specs.Run.{cornerOf, fileMap, fileNumbers}
+use Rattle.map_file.specs.Run.{cornerOf, freshMap, edited, fileMap, fileNumbers}
 use Rattle.map_format.specs.declared.format.FileCheck.the-variants.{Valid, Refused}
 use Rattle.report_text.specs.Text.{fileWord, newline, refusedText}
 use Rattle.openings.specs.Openings.{openingsOf}
@@ -105,3 +109,29 @@ FileCellSays =
     → cell < 256
     → hostCellNumber file cell out ≡ 0
     → Says (mapOf file .mesh .listed) (generateKnotVectors millionth (mapOf file) .map .knots) cell (cellIn (hostCellBuffer file cell out))
+
+-- ---- THE LEDGER OF SIDES, for files
+-- what each edit answers, on the map as the one before it left it
+unfoldable pub editAnswers : Float → Tmesh → List Edit → List InsertAnswer
+editAnswers e map [] = []
+editAnswers e map (edit ∷ rest) = edited e map edit .answer ∷ editAnswers e (edited e map edit .map) rest
+
+abbrev pub fileAnswers : Float → List ℕ → ℕ → List InsertAnswer
+fileAnswers e file count = editAnswers e (freshMap file) (editsFrom count file editsAt)
+
+-- The map that the edits of a file leave has the points, links, borders and openings that the answers of the edits give, and each link has its mirror, with
+-- the same interval bits.
+abbrev pub FileLedger : Type 0
+FileLedger = (e : Float) (file : List ℕ) (count : ℕ) → Ledger (fileMap e file count) (fileAnswers e file count)
+
+-- What the program prints of a valid file is, but for which sides are open and for the line `mid`, what the answers of its edits give: a line for each that is refused
+-- or torn, the counts, and as many lines of openings.
+abbrev pub ReportByAnswers : Type 0
+ReportByAnswers =
+    (file : List ℕ) (count room : ℕ)
+    → checkedFile file ≡ Valid count
+    → 32 ≤ room
+    → let answers = fileAnswers millionth file count in
+    let openings = openingsOf (storeOf (fileMap millionth file count)) in
+    (reportOf file ≡ editLines 1 (map answerNumber answers) ++ (countsLine (countsBy answers) ++ (openLines openings ++ midLine (hostAnswer file halfBits halfBits room))))
+    × (length openings ≡ openingsBy answers)

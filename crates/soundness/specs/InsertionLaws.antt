@@ -47,7 +47,7 @@ pub record Grown (store after : Store) : Type 0 where
   pub made-is : after .made ≡ store .made + 1
   pub roomy : store .made < 128
 
-anti-turned : (d : TmeshDirection) → sameDirection (antiClockwiseOf d) (clockwiseOf d) ≡ false
+pub anti-turned : (d : TmeshDirection) → sameDirection (antiClockwiseOf d) (clockwiseOf d) ≡ false
 anti-turned Up = refl
 anti-turned Right = refl
 anti-turned Down = refl
@@ -80,7 +80,7 @@ module _ (e : Float) (store : Store) (con p : ℕ) (d : TmeshDirection) (sound :
   first-joining : MayJoin (storeSides store) (store .made) p (clockwiseOf d) (firstSide e store con p d)
   first-joining = first-joins e store (sound .room) con p p-room d
 
-  first-sided : Sided store p (clockwiseOf d) (withFirst e store con p d)
+  pub first-sided : Sided store p (clockwiseOf d) (withFirst e store con p d)
   unfolding withFirst
   first-sided = sided-new store sound p (clockwiseOf d) p-made clockwise-free (firstSide e store con p d) first-joining
 
@@ -219,7 +219,7 @@ module _ (e : Float) (store : Store) (sound : Sound store) (con : ℕ) (d : Tmes
       stands = placed-sound store sound con other d interval con-made link roomy ratio
 
       sides : BothSided e after con (store .made) d
-      sides = both-sided e after con (store .made) d (stands .sound) (let h = stands .made-is in omega arith) (stands .across)
+      sides = both-sided e after con (store .made) d (stands .sound) (let h = stands .made-is in omega arith) (λ f across. ap isLink (stands .across f across))
 
   inserts-refused : (refusal : Refusal) → Known refusal → Inserts e store con d ratio (record { answer = Refused refusal; store = store })
   inserts-refused refusal known =

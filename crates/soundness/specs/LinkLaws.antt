@@ -46,7 +46,7 @@ module _ (store : Store) (sound : Sound store) (first other : ℕ) (d : TmeshDir
   abbrev firstLinked : Sides
   firstLinked = sidesWith (storeSides store) first d (Link other interval)
 
-  linked-sides : storeSides (linked store first other d interval) ≡ sidesWith firstLinked other (flipOf d) (Link first interval)
+  pub linked-sides : storeSides (linked store first other d interval) ≡ sidesWith firstLinked other (flipOf d) (Link first interval)
   linked-sides =
       let fits = sound .fits in
       let first-made = joining .first-made in

@@ -70,7 +70,7 @@ KnownAll (none refusal) = Met refusal
 module _ (map : Tmesh) (mesh-sound : SoundMesh (map .mesh)) where
   -- ---- an insertion
   -- the next number to be made is not listed
-  unlisted : isListed map (storeOf map .made) ≡ false
+  pub unlisted : isListed map (storeOf map .made) ≡ false
   unlisted = by-test (isListed map (storeOf map .made)) refl
     where
       by-test : (b : Bool) → isListed map (storeOf map .made) ≡ b → b ≡ false

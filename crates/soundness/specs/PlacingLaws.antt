@@ -1,5 +1,5 @@
 -- Laws of placing a point in a link of a sound store: both connects are done, so each is a linking of open sides; the store stays sound, and
--- the point's sides across the link are no links.
+-- the point's sides across the link are borders of 0.0.
 use Prim.Native.Nat.{ℕ, _<_, _+_}
 use mathlib.Core.Path.{_≡_, refl, sym, ap, _∙_, subst}
 use mathlib.Core.Bool.{Bool, true, false, cond}
@@ -62,22 +62,25 @@ line-none d f = ap isLink (line-side d f) ∙ by-test (sameDirection f (flipOf d
     by-test false true = refl
     by-test false false = refl
 
+line-across : (d f : TmeshDirection) → Across d f → sideOf (pointInLine d) f ≡ Border zeroLiteral
+line-across d f across = line-side d f ∙ rw (across .back, across .ahead)
+
 -- ---- a point that stands in a link
 pub record Placed (store : Store) (d : TmeshDirection) (after : Store) : Type 0 where
   pub sound : Sound after
   pub made-is : after .made ≡ store .made + 1
-  pub across : (f : TmeshDirection) → Across d f → isLink (storeSides after (store .made) f) ≡ false
+  pub across : (f : TmeshDirection) → Across d f → storeSides after (store .made) f ≡ Border zeroLiteral
 
 module _ (store : Store) (sound : Sound store) (con other : ℕ) (d : TmeshDirection) (interval : Float) (con-made : con < store .made)
     (link : storeSides store con d ≡ Link other interval) (roomy : store .made < 128) where
   -- ---- the link cut, and the point made
-  abbrev stood : Store
+  abbrev pub stood : Store
   stood = parted store con other d
 
-  cut-sound : Sound (cut store con other d)
+  pub cut-sound : Sound (cut store con other d)
   cut-sound = sound-cut store sound con d other interval Opening Opening con-made link refl refl
 
-  stood-sound : Sound stood
+  pub stood-sound : Sound stood
   stood-sound = sound-new (cut store con other d) cut-sound (pointInLine d) roomy (line-none d)
 
   stood-new : (f : TmeshDirection) → storeSides stood (store .made) f ≡ sideOf (pointInLine d) f
@@ -93,19 +96,19 @@ module _ (store : Store) (sound : Sound store) (con other : ℕ) (d : TmeshDirec
   other-made = sound .mirrored con d other interval con-made link .leads
 
   module _ (ratio : Float) where
-    abbrev nearInterval : Float
+    abbrev pub nearInterval : Float
     nearInterval = mul binary64 interval ratio
 
-    abbrev farInterval : Float
+    abbrev pub farInterval : Float
     farInterval = mul binary64 interval (sub binary64 oneLiteral ratio)
 
-    abbrev nearLinked : Store
+    abbrev pub nearLinked : Store
     nearLinked = linked stood con (store .made) d nearInterval
 
     near-joined : nearJoined store con other d interval ratio ≡ done nearLinked
     near-joined = near-done store (sound .room) roomy con other (is-made con con-made) (is-made other other-made) d interval ratio
 
-    far-joined : farJoined store con other d interval ratio ≡ done (linked nearLinked (store .made) other d farInterval)
+    pub far-joined : farJoined store con other d interval ratio ≡ done (linked nearLinked (store .made) other d farInterval)
     far-joined = far-done store (sound .room) roomy con other (is-made con con-made) (is-made other other-made) d interval ratio
 
     pub near-succeeds : nearJoined store con other d interval ratio .outcome ≡ Done
@@ -114,15 +117,15 @@ module _ (store : Store) (sound : Sound store) (con other : ℕ) (d : TmeshDirec
     pub far-succeeds : farJoined store con other d interval ratio .outcome ≡ Done
     far-succeeds = ap (λ (changed : Changed). changed .outcome) far-joined
 
-    near-joining : Joining (store .made + 1) (storeSides stood) con (store .made) d
+    pub near-joining : Joining (store .made + 1) (storeSides stood) con (store .made) d
     near-joining =
         done-joining (store .made + 1) (storeSides stood) con (store .made) d
         (connect-outcome stood con (store .made) d nearInterval ∙ near-succeeds)
 
-    near-sound : Sound nearLinked
+    pub near-sound : Sound nearLinked
     near-sound = sound-linked stood stood-sound con (store .made) d nearInterval near-joining
 
-    far-joining : Joining (store .made + 1) (storeSides nearLinked) (store .made) other d
+    pub far-joining : Joining (store .made + 1) (storeSides nearLinked) (store .made) other d
     far-joining =
         done-joining (store .made + 1) (storeSides nearLinked) (store .made) other d
         (connect-outcome nearLinked (store .made) other d farInterval
@@ -137,9 +140,8 @@ module _ (store : Store) (sound : Sound store) (con other : ℕ) (d : TmeshDirec
           sound = sound-linked nearLinked near-sound (store .made) other d farInterval far-joining;
           made-is = refl;
           across = λ f across.
-              ap isLink
-              (linked-first nearLinked near-sound (store .made) other d farInterval far-joining f (across .ahead)
+              linked-first nearLinked near-sound (store .made) other d farInterval far-joining f (across .ahead)
               ∙ linked-other stood stood-sound con (store .made) d nearInterval near-joining f (across .back)
-              ∙ stood-new f)
-              ∙ line-none d f;
+              ∙ stood-new f
+              ∙ line-across d f across;
         })

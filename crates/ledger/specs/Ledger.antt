@@ -1,0 +1,61 @@
+-- The ledger of a list of insertions: what their answers, done, torn or refused, say of the sides of the map that they leave. Nothing but the answers is looked at.
+use Prim.Native.Nat.{ℕ, _+_, _*_, _-_}
+use mathlib.Core.List.{List, [], _∷_}
+use Rattle.insertion.specs.declared.insertion.InsertAnswer.{InsertAnswer}
+use Rattle.insertion.specs.declared.insertion.InsertAnswer.the-variants.{Done, Torn, Refused}
+use Rattle.census.specs.declared.census.Counts.{Counts}
+
+-- ---- what one answer says
+-- whether a point was made, 1 or 0, and whether it was listed
+abbrev pub madeBy : InsertAnswer → ℕ
+madeBy (Done opened inferred) = 1
+madeBy (Torn opened inferred) = 1
+madeBy (Refused refusal) = 0
+
+abbrev pub listedBy : InsertAnswer → ℕ
+listedBy (Done opened inferred) = 1
+listedBy (Torn opened inferred) = 0
+listedBy (Refused refusal) = 0
+
+-- how many sides were opened, and how many links inferred
+abbrev pub openedBy : InsertAnswer → ℕ
+openedBy (Done opened inferred) = opened
+openedBy (Torn opened inferred) = opened
+openedBy (Refused refusal) = 0
+
+abbrev pub inferredBy : InsertAnswer → ℕ
+inferredBy (Done opened inferred) = inferred
+inferredBy (Torn opened inferred) = inferred
+inferredBy (Refused refusal) = 0
+
+-- ---- summed over all answers: document 02's C, O and I, and the insertions done
+unfoldable pub total : (InsertAnswer → ℕ) → List InsertAnswer → ℕ
+total number [] = 0
+total number (answer ∷ rest) = number answer + total number rest
+
+abbrev pub pointsAdded : List InsertAnswer → ℕ
+pointsAdded = total madeBy
+
+abbrev pub pointsListed : List InsertAnswer → ℕ
+pointsListed = total listedBy
+
+abbrev pub sidesOpened : List InsertAnswer → ℕ
+sidesOpened = total openedBy
+
+abbrev pub linksInferred : List InsertAnswer → ℕ
+linksInferred = total inferredBy
+
+-- ---- the map that they leave of a fresh one
+-- what `counts` answers of it
+abbrev pub countsBy : List InsertAnswer → Counts
+countsBy answers =
+    record {
+      made = 4 + pointsAdded answers;
+      listed = 4 + pointsListed answers;
+      links = 4 + pointsAdded answers + linksInferred answers;
+      borders = 8 + 2 * pointsAdded answers - sidesOpened answers;
+    }
+
+-- how many openings it has
+abbrev pub openingsBy : List InsertAnswer → ℕ
+openingsBy answers = sidesOpened answers - 2 * linksInferred answers

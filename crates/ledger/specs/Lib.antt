@@ -1,0 +1,9 @@
+pub mod Ledger
+pub mod Theorem
+pub mod PriceLaws
+pub mod ChangeLaws
+pub mod BookingLaws
+pub mod CountedLaws
+pub mod TheoremProof
+pub mod Reading
+pub mod ReadingProof

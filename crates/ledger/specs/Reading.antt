@@ -1,0 +1,51 @@
+-- The theorem is not empty. On a map with border 1.0 and any corners, at document 01's closeness: ratio 0.5 from 0 Right; an insertion from 0 Left, which is refused; 0.5 from 3 Right,
+-- which infers a link; and ratio 0.0 from 1 Up, which is torn. C is 3, O is 3 and I is 1: 7 points, 8 links, 11 borders and 1 opening. 6 points are listed.
+use mathlib.Core.List.{List, [], _∷_}
+use mathlib.Core.Path.{_≡_}
+use Rattle.float64.specs.Literals.{zeroLiteral, oneLiteral}
+use Rattle.control_point.specs.Small.{millionth}
+use Rattle.control_point.specs.declared.refusal.Refusal.the-variants.{BorderSide}
+use Rattle.control_point.specs.declared.t_mesh_direction.TmeshDirection.the-variants.{Up, Right, Left}
+use Rattle.insertion.specs.declared.insertion.InsertAnswer.{InsertAnswer}
+use Rattle.insertion.specs.declared.insertion.InsertAnswer.the-variants.{Done, Torn, Refused}
+use Rattle.t_mesh.specs.Tmesh.{storeOf, newTmesh}
+use Rattle.t_mesh.specs.declared.t_mesh.Position.{Position}
+use Rattle.t_mesh.specs.declared.t_mesh.Tmesh.{Tmesh}
+use Rattle.census.specs.Census.{countsOf}
+use Rattle.openings.specs.Openings.{openingsOf, openingsAnswer}
+use Rattle.calls.specs.Calls.{Call, insertion, runOf}
+use Rattle.calls.specs.ExampleValues.{half}
+use Rattle.soundness.specs.MapCalls.{mapAfterAll, entries}
+use Rattle.ledger.specs.Ledger.{pointsAdded, sidesOpened, linksInferred}
+use Rattle.ledger.specs.Theorem.{insertionAnswers}
+
+-- what they answer
+abbrev pub answers : List InsertAnswer
+answers = Done 1 0 ∷ (Refused BorderSide ∷ (Done 1 1 ∷ (Torn 1 0 ∷ [])))
+
+module _ (bottomLeft bottomRight topRight topLeft position : Position) where
+  abbrev pub plate : Tmesh
+  plate = newTmesh oneLiteral bottomLeft bottomRight topRight topLeft
+
+  abbrev pub edits : List Call
+  edits =
+      insertion 0 Right half position
+      ∷ (insertion 0 Left half position
+      ∷ (insertion 3 Right half position
+      ∷ (insertion 1 Up zeroLiteral position ∷ [])))
+
+  abbrev pub left : Tmesh
+  left = mapAfterAll millionth plate (entries edits)
+
+  pub record LedgerReading : Type 0 where
+    pub answered : insertionAnswers (runOf millionth plate edits) ≡ answers
+    pub counts : countsOf left ≡ record { made = 7; listed = 6; links = 8; borders = 11 }
+    pub openings : openingsAnswer (openingsOf (storeOf left)) .count ≡ 1
+
+-- C, O and I of these answers, and the reading for all corners and positions
+abbrev pub EveryLedgerReading : Type 0
+EveryLedgerReading =
+    (pointsAdded answers ≡ 3)
+    × ((sidesOpened answers ≡ 3)
+    × ((linksInferred answers ≡ 1)
+    × ((bottomLeft bottomRight topRight topLeft position : Position) → LedgerReading bottomLeft bottomRight topRight topLeft position)))

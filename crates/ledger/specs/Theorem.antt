@@ -1,0 +1,54 @@
+-- THE LEDGER OF SIDES. Take any list of insertions, with evaluations and questions of cells among them or none, on a fresh map of any border weight and corners,
+-- with any closeness and any arguments, calls refused or torn among them. Let C be how many insertions are answered done or torn, O the sum of the sides that they
+-- opened and I the sum of the links that they inferred, done or torn, as they answer. Then the map that the list leaves has
+--
+--   points made    4 + C
+--   two-way links  4 + C + I
+--   borders        8 + 2 × C − O
+--   openings       O − 2 × I
+--
+-- and neither difference is cut off at 0. The left sides are counted from the mesh, as the calls `counts` and `openings` answer them; the right sides take the answers
+-- alone. `counts` answers the points listed too: they are 4 and the insertions done. Each link has its mirror, with the same interval, bit for bit.
+use Prim.Native.Nat.{ℕ, _+_, _*_, _<_, _≤_}
+use mathlib.Core.List.{List, [], _∷_}
+use mathlib.Core.Path.{_≡_}
+use lib.Ieee.{Float}
+use Rattle.control_point.specs.declared.t_mesh_control_point.Side.the-variants.{Link}
+use Rattle.control_point.specs.declared.t_mesh_direction.TmeshDirection.{TmeshDirection}
+use Rattle.store.specs.Store.{storeSides}
+use Rattle.mirror.specs.Mirror.{MirrorOf}
+use Rattle.insertion.specs.declared.insertion.InsertAnswer.{InsertAnswer}
+use Rattle.t_mesh.specs.Tmesh.{storeOf, newTmesh}
+use Rattle.t_mesh.specs.declared.t_mesh.Position.{Position}
+use Rattle.t_mesh.specs.declared.t_mesh.Tmesh.{Tmesh}
+use Rattle.census.specs.Census.{countsOf}
+use Rattle.openings.specs.Openings.{openingsOf, openingsAnswer}
+use Rattle.calls.specs.Calls.{Call, Answer, inserted, evaluated, questioned, Event, runOf}
+use Rattle.soundness.specs.MapCalls.{mapAfterAll, entries}
+use Rattle.ledger.specs.Ledger.{pointsAdded, sidesOpened, linksInferred, countsBy, openingsBy}
+
+-- an answer before others, if it is an insertion's
+abbrev pub withInsertion : Answer → List InsertAnswer → List InsertAnswer
+withInsertion (inserted answer) rest = answer ∷ rest
+withInsertion (evaluated answer) rest = rest
+withInsertion (questioned answer) rest = rest
+
+-- what the insertions of a run answered, in order
+unfoldable pub insertionAnswers : List Event → List InsertAnswer
+insertionAnswers [] = []
+insertionAnswers (event ∷ rest) = withInsertion (event .answer) (insertionAnswers rest)
+
+-- a map that a list of insertions with these answers leaves
+pub record Ledger (map : Tmesh) (answers : List InsertAnswer) : Type 0 where
+  pub counts : countsOf map ≡ countsBy answers
+  pub openings : openingsAnswer (openingsOf (storeOf map)) .count ≡ openingsBy answers
+  pub borders-whole : sidesOpened answers ≤ 8 + 2 * pointsAdded answers
+  pub openings-whole : 2 * linksInferred answers ≤ sidesOpened answers
+  pub mirrored : (n : ℕ) (d : TmeshDirection) (m : ℕ) (interval : Float) → n < storeOf map .made → storeSides (storeOf map) n d ≡ Link m interval
+      → MirrorOf (storeOf map .made) (storeSides (storeOf map)) n d m interval
+
+abbrev pub LedgerOfSides : Type 0
+LedgerOfSides =
+    (e weight : Float) (bottomLeft bottomRight topRight topLeft : Position) (calls : List Call)
+    → let fresh = newTmesh weight bottomLeft bottomRight topRight topLeft in
+    Ledger (mapAfterAll e fresh (entries calls)) (insertionAnswers (runOf e fresh calls))
