@@ -13,6 +13,7 @@ use Rattle.store.specs.Store.{storePoint}
 use Rattle.store.specs.StoreLaws.{side-read}
 use Rattle.store.specs.declared.store.Store.{Store}
 use Rattle.census.specs.Census.{hasSide, linksAhead, bordersAround}
+use Rattle.census.specs.declared.census.Counts.{Counts}
 
 -- 1 for a side of a point that passes a test
 abbrev one : (Side → Bool) → Store → ℕ → TmeshDirection → ℕ
@@ -91,3 +92,11 @@ borders-next store n h sum more s m =
       side-next isBorder store Left n h,
       four-apart (isMade (store .made) n) (one isBorder store n Up) (one isBorder store n Right) (one isBorder store n Down) (one isBorder store n Left),
     )
+
+-- ---- counts that are equal number by number
+abbrev counted : ℕ → ℕ → ℕ → ℕ → Counts
+counted made listed links borders = record { made = made; listed = listed; links = links; borders = borders }
+
+pub same-counts : {made listed links borders made′ listed′ links′ borders′ : ℕ} → made ≡ made′ → listed ≡ listed′ → links ≡ links′ → borders ≡ borders′
+    → counted made listed links borders ≡ counted made′ listed′ links′ borders′
+same-counts m l k b = rw (m, l, k, b) refl

@@ -1,7 +1,7 @@
 // The counts of a map.
 ghost use mathlib.Core.Path.{_≡_};
 ghost use mathlib.Core.Bool.{cond, false};
-ghost use Prim.Native.Nat.{_+_};
+ghost use Prim.Native.Nat.{_+_, _≤_};
 ghost use lib.ListN.{getD};
 ghost use Rattle.counting.specs.Counting.{countBelow};
 ghost use Rattle.control_point.specs.Point.{sideOf, isMade, isLink, isBorder};
@@ -48,13 +48,15 @@ fn count_listed(listed: [bool; 128]) -> u8
 
 // 1 where a point has a link in a direction, and where it has a border there; else 0.
 fn one_link(point: TmeshControlPoint, direction: TmeshDirection) -> u8
-    ensures { λ r. ⌜ r ≡ cond (isLink (sideOf point direction)) 1 0 ⌝ }
+    ensures value { λ r. ⌜ r ≡ cond (isLink (sideOf point direction)) 1 0 ⌝ }
+    ensures bound { λ r. ⌜ r ≤ 1 ⌝ }
 {
     one_if(is_link(side_of(point, direction)))
 }
 
 fn one_border(point: TmeshControlPoint, direction: TmeshDirection) -> u8
-    ensures { λ r. ⌜ r ≡ cond (isBorder (sideOf point direction)) 1 0 ⌝ }
+    ensures value { λ r. ⌜ r ≡ cond (isBorder (sideOf point direction)) 1 0 ⌝ }
+    ensures bound { λ r. ⌜ r ≤ 1 ⌝ }
 {
     one_if(is_border(side_of(point, direction)))
 }

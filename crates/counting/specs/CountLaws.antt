@@ -25,9 +25,12 @@ count-next n test = rw (add-one n)
 pub count-more : (n sum one : ℕ) (test : ℕ → Bool) → sum ≡ countBelow n test → one ≡ cond (test n) 1 0 → sum + one ≡ countBelow (n + 1) test
 count-more n sum one test s o = omega (arith, count-next n test)
 
-pub one-few : (b : Bool) → cond {A = ℕ} b 1 0 ≤ 1
+one-few : (b : Bool) → cond {A = ℕ} b 1 0 ≤ 1
 one-few true = lit≤ tt
 one-few false = lit≤ tt
+
+pub one-at-most : (b : Bool) (one : ℕ) → one ≡ cond b 1 0 → one ≤ 1
+one-at-most b one is = omega (arith, is, one-few b)
 
 pub count-few : (n : ℕ) (test : ℕ → Bool) → countBelow n test ≤ n
 unfolding countBelow

@@ -140,10 +140,10 @@ abbrev pub Books : Store → Inserted → Type 0
 Books store result = Booked store (madeBy (result .answer)) (openedBy (result .answer)) (inferredBy (result .answer)) (result .store)
 
 -- torn or done, it is the same
-books-counted : (store after : Store) (torn : Bool) (opened inferred : ℕ) → Booked store 1 opened inferred after
-    → Books store (record { answer = countedAnswer torn opened inferred; store = after })
-books-counted store after true opened inferred booked = booked
-books-counted store after false opened inferred booked = booked
+books-counted : (store after : Store) (torn : Bool) (openings links : ℕ) → Booked store 1 openings links after
+    → Books store (record { answer = countedAnswer torn openings links; store = after })
+books-counted store after true openings links booked = booked
+books-counted store after false openings links booked = booked
 
 module _ (e : Float) (store : Store) (sound : Sound store) (con : ℕ) (d : TmeshDirection) (ratio : Float) where
   books-placed : (other : ℕ) (interval : Float) → con < store .made → storeSides store con d ≡ Link other interval → store .made < 128

@@ -29,7 +29,7 @@ use Rattle.t_mesh.specs.declared.t_mesh.Tmesh.{Tmesh}
 use Rattle.surface.specs.Evaluation.{subsOf}
 use Rattle.cells.specs.Cells.{cellPoints}
 use Rattle.census.specs.Census.{countsOf}
-use Rattle.census.specs.declared.census.Counts.{Counts}
+use Rattle.census.specs.CensusLaws.{same-counts}
 use Rattle.openings.specs.Openings.{openingsOf}
 use Rattle.openings.specs.OpeningsLaws.{answer-count}
 use Rattle.calls.specs.Calls.{Call, insertion, evaluation, question, Answer, inserted, evaluated, questioned, answerTo, mapAfter, Event, runOf}
@@ -217,18 +217,10 @@ module _ (weight : Float) (bottomLeft bottomRight topRight topLeft : Position) w
     openings : worthOf (passing isOpening) (storeOf map) + 2 * I ≡ O
     openings = omega (arith, now (passing isOpening) 0 0 1 opening-price)
 
-    -- each number that `counts` answers
-    abbrev counted : ℕ → ℕ → ℕ → ℕ → Counts
-    counted made listed links borders = record { made = made; listed = listed; links = links; borders = borders }
-
-    by-numbers : {made listed links borders made′ listed′ links′ borders′ : ℕ} → made ≡ made′ → listed ≡ listed′ → links ≡ links′ → borders ≡ borders′
-        → counted made listed links borders ≡ counted made′ listed′ links′ borders′
-    by-numbers m l k b = rw (m, l, k, b) refl
-
     counts : countsOf map ≡ countsBy answers
     unfolding countsOf
     counts =
-        by-numbers
+        same-counts
         (omega (arith, ran .step .made-is, ap (λ (store : Store). store .made) fresh-store))
         (omega (arith, ran .step .listed-is, fresh-listed))
         (sym (worth-ahead isLink (storeOf map)) ∙ links)

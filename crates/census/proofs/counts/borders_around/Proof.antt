@@ -2,9 +2,6 @@
 use borrow.Author.Needs.{needs}
 use Prim.Native.Nat.{_+_, _≤_}
 use native.Mathlib.Omega.{arith}
-use Rattle.counting.specs.CountLaws.{one-few}
-use Rattle.control_point.specs.Point.{sideOf, isBorder}
-use Rattle.control_point.specs.declared.t_mesh_direction.TmeshDirection.the-variants.{Up, Right, Down, Left}
 use Rattle.census.proofs.counts.borders_around.Statement.{statement}
 use Rattle.census.proofs.counts.borders_around.Tie as tie
 
@@ -23,18 +20,7 @@ one-border-requires-4 c κs = search needs
 -- four at most
 few : (c : tie.After-one-border4) → c .before .before .before .one-border .result + c .before .before .one-border2 .result + c .before .one-border3 .result + c .one-border4 .result ≤ 4
 few c =
-    let p = c .before .before .before .before .args .point in
-    omega (
-      arith,
-      c .before .before .before .one-border .ensures,
-      c .before .before .one-border2 .ensures,
-      c .before .one-border3 .ensures,
-      c .one-border4 .ensures,
-      one-few (isBorder (sideOf p Up)),
-      one-few (isBorder (sideOf p Right)),
-      one-few (isBorder (sideOf p Down)),
-      one-few (isBorder (sideOf p Left)),
-    )
+    omega (arith, c .before .before .before .one-border .ensures .1, c .before .before .one-border2 .ensures .1, c .before .one-border3 .ensures .1, c .one-border4 .ensures .1)
 
 add-result : tie.Need-add-result
 add-result c = record { fits = omega (arith, few c) }
@@ -46,7 +32,8 @@ add-result-3 : tie.Need-add-result-3
 add-result-3 c = record { fits = omega (arith, few c) }
 
 returns : tie.Need-returns
-returns c = omega (arith, c .before .before .before .one-border .ensures, c .before .before .one-border2 .ensures, c .before .one-border3 .ensures, c .one-border4 .ensures)
+returns c =
+    omega (arith, c .before .before .before .one-border .ensures .0, c .before .before .one-border2 .ensures .0, c .before .one-border3 .ensures .0, c .one-border4 .ensures .0)
 
 pub borders-around-spec : {M : Type 1} → statement M
 borders-around-spec =

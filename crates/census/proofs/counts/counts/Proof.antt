@@ -1,6 +1,12 @@
 -- `counts` meets its contract: each field is what its function counts.
 use borrow.Author.Needs.{needs}
-use Rattle.census.specs.Census.{countsOf}
+use mathlib.Core.Path.{_∙_, ap}
+use Prim.Native.Nat.{_+_}
+use Rattle.control_point.specs.Point.{isLink, isBorder}
+use Rattle.control_point.specs.declared.t_mesh_direction.TmeshDirection.the-variants.{Up, Right}
+use Rattle.store.specs.declared.store.Store.{Store}
+use Rattle.census.specs.Census.{sidesTowards, sidesThat, countsOf}
+use Rattle.census.specs.CensusLaws.{same-counts}
 use Rattle.census.proofs.counts.counts.Statement.{statement}
 use Rattle.census.proofs.counts.counts.Tie as tie
 
@@ -17,7 +23,12 @@ returns : tie.Need-returns
 unfolding countsOf
 returns c =
     let sides = c .before .count-sides in
-    rw (c .count-listed .ensures, sides .ensures .0, sides .ensures .1, c .before .before .before .store-of .ensures)
+    let is = c .before .before .before .store-of .ensures in
+    same-counts
+    (ap (λ (store : Store). store .made) is)
+    (c .count-listed .ensures)
+    (sides .ensures .0 ∙ ap (λ (store : Store). sidesTowards isLink store Up + sidesTowards isLink store Right) is)
+    (sides .ensures .1 ∙ ap (λ (store : Store). sidesThat isBorder store) is)
 
 pub counts-spec : {M : Type 1} → statement M
 counts-spec =

@@ -2,7 +2,8 @@
 use borrow.Author.Needs.{needs}
 use mathlib.Core.Path.{_∙_, ap}
 use mathlib.Core.Bool.{Bool, cond}
-use Rattle.control_point.specs.Point.{isLink}
+use Rattle.counting.specs.CountLaws.{one-at-most}
+use Rattle.control_point.specs.Point.{sideOf, isLink}
 use Rattle.census.proofs.counts.one_link.Statement.{statement}
 use Rattle.census.proofs.counts.one_link.Tie as tie
 
@@ -16,7 +17,10 @@ one-if-requires : tie.Need-one-if-requires
 one-if-requires c κs = search needs
 
 returns : tie.Need-returns
-returns c = c .one-if .ensures ∙ ap (λ (b : Bool). cond b 1 0) (c .before .is-link .ensures ∙ ap isLink (c .before .before .side-of .ensures))
+returns c =
+    let a = c .before .before .before .args in
+    let value = c .one-if .ensures ∙ ap (λ (b : Bool). cond b 1 0) (c .before .is-link .ensures ∙ ap isLink (c .before .before .side-of .ensures)) in
+    (value, one-at-most (isLink (sideOf (a .point) (a .direction))) _ value)
 
 pub one-link-spec : {M : Type 1} → statement M
 one-link-spec = tie.close (tie.spec side-of-requires is-link-requires one-if-requires returns)
