@@ -1,5 +1,6 @@
--- The theorem is not empty. On a map with border 1.0 and any corners, at document 01's closeness: ratio 0.5 from 0 Right; an insertion from 0 Left, which is refused; 0.5 from 3 Right,
--- which infers a link; and ratio 0.0 from 1 Up, which is torn. C is 3, O is 3 and I is 1: 7 points, 8 links, 11 borders and 1 opening. 6 points are listed.
+-- The theorem is not empty. On a map with border 1.0 and any corners, at document 01's closeness: ratio 0.5 from 0 Up; 0.5 from 1 Up, which infers a link; an insertion from
+-- 0 Left, which is refused; 0.0 from 0 Right, which is torn; and 0.0 from 4 Right, which infers a link on one side and is torn on the other. C is 4, O is 5 and I is 2: 8 points,
+-- 10 links, 11 borders and 1 opening. 6 points are listed.
 use mathlib.Core.List.{List, [], _∷_}
 use mathlib.Core.Path.{_≡_}
 use Rattle.float64.specs.Literals.{zeroLiteral, oneLiteral}
@@ -21,7 +22,7 @@ use Rattle.ledger.specs.Theorem.{insertionAnswers}
 
 -- what they answer
 abbrev pub answers : List InsertAnswer
-answers = Done 1 0 ∷ (Refused BorderSide ∷ (Done 1 1 ∷ (Torn 1 0 ∷ [])))
+answers = Done 1 0 ∷ (Done 1 1 ∷ (Refused BorderSide ∷ (Torn 1 0 ∷ (Torn 2 1 ∷ []))))
 
 module _ (bottomLeft bottomRight topRight topLeft position : Position) where
   abbrev pub plate : Tmesh
@@ -29,23 +30,24 @@ module _ (bottomLeft bottomRight topRight topLeft position : Position) where
 
   abbrev pub edits : List Call
   edits =
-      insertion 0 Right half position
+      insertion 0 Up half position
+      ∷ (insertion 1 Up half position
       ∷ (insertion 0 Left half position
-      ∷ (insertion 3 Right half position
-      ∷ (insertion 1 Up zeroLiteral position ∷ [])))
+      ∷ (insertion 0 Right zeroLiteral position
+      ∷ (insertion 4 Right zeroLiteral position ∷ []))))
 
   abbrev pub left : Tmesh
   left = mapAfterAll millionth plate (entries edits)
 
   pub record LedgerReading : Type 0 where
     pub answered : insertionAnswers (runOf millionth plate edits) ≡ answers
-    pub counts : countsOf left ≡ record { made = 7; listed = 6; links = 8; borders = 11 }
+    pub counts : countsOf left ≡ record { made = 8; listed = 6; links = 10; borders = 11 }
     pub openings : openingsAnswer (openingsOf (storeOf left)) .count ≡ 1
 
 -- C, O and I of these answers, and the reading for all corners and positions
 abbrev pub EveryLedgerReading : Type 0
 EveryLedgerReading =
-    (pointsAdded answers ≡ 3)
-    × ((sidesOpened answers ≡ 3)
-    × ((linksInferred answers ≡ 1)
+    (pointsAdded answers ≡ 4)
+    × ((sidesOpened answers ≡ 5)
+    × ((linksInferred answers ≡ 2)
     × ((bottomLeft bottomRight topRight topLeft position : Position) → LedgerReading bottomLeft bottomRight topRight topLeft position)))
