@@ -19,9 +19,9 @@ use t_mesh::t_mesh::Tmesh;
 use t_mesh::t_mesh::store_of;
 
 // The two-way links and the borders of the points made.
-pub struct SideCounts {
-    pub links: u16,
-    pub borders: u16,
+struct SideCounts {
+    links: u16,
+    borders: u16,
 }
 
 fn one_if(test: bool) -> u8

@@ -5,5 +5,6 @@ pub mod ChangeLaws
 pub mod BookingLaws
 pub mod CountedLaws
 pub mod TheoremProof
+pub mod SidesAddUpProof
 pub mod Reading
 pub mod ReadingProof

@@ -25,6 +25,7 @@ use Rattle.census.specs.Census.{countsOf}
 use Rattle.openings.specs.Openings.{openingsOf, openingsAnswer}
 use Rattle.calls.specs.Calls.{Call, Answer, inserted, evaluated, questioned, Event, runOf}
 use Rattle.soundness.specs.MapCalls.{mapAfterAll, entries}
+use Rattle.soundness.specs.Theorems.{EveryMap}
 use Rattle.ledger.specs.Ledger.{pointsAdded, sidesOpened, linksInferred, countsBy, openingsBy}
 
 -- an answer before others, if it is an insertion's
@@ -38,7 +39,7 @@ unfoldable pub insertionAnswers : List Event → List InsertAnswer
 insertionAnswers [] = []
 insertionAnswers (event ∷ rest) = withInsertion (event .answer) (insertionAnswers rest)
 
--- a map that a list of insertions with these answers leaves
+-- a map, and what the insertions answered that made it from a fresh one: the points made and listed, the two-way links and the borders; the openings; both differences whole; the mirrors
 pub record Ledger (map : Tmesh) (answers : List InsertAnswer) : Type 0 where
   pub counts : countsOf map ≡ countsBy answers
   pub openings : openingsAnswer (openingsOf (storeOf map)) .count ≡ openingsBy answers
@@ -52,3 +53,9 @@ LedgerOfSides =
     (e weight : Float) (bottomLeft bottomRight topRight topLeft : Position) (calls : List Call)
     → let fresh = newTmesh weight bottomLeft bottomRight topRight topLeft in
     Ledger (mapAfterAll e fresh (entries calls)) (insertionAnswers (runOf e fresh calls))
+
+-- ---- with direct calls too
+-- Direct calls change sides by themselves, so that no ledger of insertions holds of a list with them. What holds after every list of calls (`MapCall`), direct ones among them, is that
+-- the four sides of each point made are counted, once each: both sides of each two-way link, the borders and the openings.
+abbrev pub SidesAddUp : Type 0
+SidesAddUp = EveryMap (λ map. 4 * countsOf map .made ≡ 2 * countsOf map .links + countsOf map .borders + openingsAnswer (openingsOf (storeOf map)) .count)
