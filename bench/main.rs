@@ -37,6 +37,9 @@ unsafe extern "C" {
     fn bench_knots(edits: *const u8, length: usize, repeats: u64) -> u64;
     fn bench_indices(edits: *const u8, length: usize, repeats: u64) -> u64;
     fn bench_cell_points(edits: *const u8, length: usize, repeats: u64) -> u64;
+    fn bench_counts(edits: *const u8, length: usize, repeats: u64) -> u64;
+    fn bench_openings(edits: *const u8, length: usize, repeats: u64) -> u64;
+    fn bench_reports(file: *const u8, length: usize, repeats: u64) -> u64;
     fn bench_evaluations(edits: *const u8, length: usize, repeats: u64) -> u64;
     fn bench_lent_evaluations(edits: *const u8, length: usize, repeats: u64) -> u64;
     fn bench_rays(edits: *const u8, length: usize, repeats: u64) -> u64;
@@ -199,9 +202,10 @@ fn main() {
         });
         let name = format!("evaluation with knots kept, {points} points");
         let evaluation = line(&name, 1.0, 20000, &edits, &file, bench_evaluations, locks::evaluations, cells::evaluations);
-        line_alone(&format!("points of a cell with index kept, {points} points"), 20000, &file, bench_cell_points, |points| {
-            format!("{:.2} of the evaluation", points / evaluation)
-        });
+        let of_evaluation = |time: f64| format!("{:.2} of the evaluation", time / evaluation);
+        line_alone(&format!("points of a cell with index kept, {points} points"), 20000, &file, bench_cell_points, of_evaluation);
+        line_alone(&format!("counts, {points} points"), 20000, &file, bench_counts, of_evaluation);
+        line_alone(&format!("openings listed, {points} points"), 20000, &file, bench_openings, of_evaluation);
         line(&format!("evaluation with knots kept, over lent knots, {points} points"), 1.0, 20000, &edits, &file, bench_lent_evaluations, locks::evaluations, cells::evaluations);
         line(&format!("ray of 2, over lent sides, {points} points"), 1.0, 100000, &edits, &file, bench_rays, locks::rays, cells::rays);
     }
@@ -223,8 +227,8 @@ fn main() {
         let turns = 20000 / (edits.len() as u64 + 10);
         let file = map_file(&edits);
         let set_point = line(&format!("file of {name}"), 1.0, turns, &edits, &file, files, locks::files, cells::files);
-        line_alone(&format!("points of a cell, file of {name}"), turns, &file, file_cells, |points| {
-            format!("{:.2} of its set-point", points / set_point)
-        });
+        let of_set_point = |time: f64| format!("{:.2} of its set-point", time / set_point);
+        line_alone(&format!("points of a cell, file of {name}"), turns, &file, file_cells, of_set_point);
+        line_alone(&format!("report of a file of {name}"), turns, &file, bench_reports, of_set_point);
     }
 }

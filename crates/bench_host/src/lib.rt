@@ -6,6 +6,8 @@ use big_endian::byte_at;
 use big_endian::float_at;
 use cells::CellAnswer;
 use cells::cell_points;
+use census::census::Counts;
+use census::counts::counts;
 use control_point::sides::fill;
 use control_point::small::closeness;
 use control_point::t_mesh_direction::TmeshDirection;
@@ -19,6 +21,8 @@ use map_insertion::add_control_point;
 use mesh_insertion::insert_into;
 use navigation::walk::Walk;
 use navigation::walk::navigate;
+use openings::list::Openings;
+use openings::openings::openings;
 use ray::ray::cast;
 use store::walk::navigate_until_con;
 use surface::evaluation::EvaluationAnswer;
@@ -28,6 +32,9 @@ use t_mesh::t_mesh::Tmesh;
 use t_mesh::t_mesh::store_of;
 
 const EDIT_BYTES: usize = 34;
+
+// A total that no bench comes to, which the compiler cannot know.
+const NEVER: u64 = 0xffff_ffff;
 
 // A fresh map: border 1.0, the corners of document 01's sample.
 fn fresh() -> Tmesh {
@@ -119,6 +126,11 @@ fn counted(total: u64, more: u8) -> u64 {
     total % 0x1_0000_0000 + (more as u64)
 }
 
+// The same with a wide number added.
+fn counted_wide(total: u64, more: u64) -> u64 {
+    total % 0x1_0000_0000 + more % 0x1_0000_0000
+}
+
 // The edits run from a fresh mesh, again and again: how many points stand made in the end.
 #[no_mangle]
 pub extern "C" fn bench_insertions(edits: &[u8], repeats: u64) -> u64 {
@@ -199,6 +211,60 @@ pub extern "C" fn bench_cell_points(edits: &[u8], repeats: u64) -> u64 {
         map = asked.map;
         cell = count_in(answer);
         total = counted(total, cell);
+        turn += 1;
+    }
+    total
+}
+
+// How many points are made for the next turn: as many, by a test that the total decides.
+fn next_made(made: u8, total: u64) -> u8 {
+    if total == NEVER { 0 } else { made }
+}
+
+// Corner 0 is listed for the next turn, by the same test.
+fn list_corner(listed: &mut [bool; 128], total: u64) {
+    listed[0] = total != NEVER;
+}
+
+// Every count of a map is in the sum.
+fn sum_of(answer: Counts) -> u64 {
+    answer.made as u64 + answer.listed as u64 + answer.links as u64
+}
+
+// The counts of a map: their sum.
+#[no_mangle]
+pub extern "C" fn bench_counts(edits: &[u8], repeats: u64) -> u64 {
+    let mut map = map_of(edits);
+    let mut total: u64 = 0;
+    let mut turn: u64 = 0;
+    while turn < repeats {
+        total = counted_wide(total, sum_of(counts(map)));
+        list_corner(&mut map.mesh.listed, total);
+        let made = next_made(map.mesh.made, total);
+        map.mesh.made = made;
+        turn += 1;
+    }
+    total
+}
+
+// How many are listed, and what stands at a place of the list.
+fn number_in(list: Openings, place: u64) -> u64 {
+    let at = (place % 512) as usize;
+    let point = list.points[at];
+    let direction = list.directions[at];
+    counted(counted(list.count as u64, point), direction)
+}
+
+// The openings of a store listed: the sum of their counts and of one opening of each list.
+#[no_mangle]
+pub extern "C" fn bench_openings(edits: &[u8], repeats: u64) -> u64 {
+    let map = map_of(edits);
+    let mut store = store_of(map.mesh);
+    let mut total: u64 = 0;
+    let mut turn: u64 = 0;
+    while turn < repeats {
+        total = counted_wide(total, number_in(openings(store), turn));
+        store.made = next_made(store.made, total);
         turn += 1;
     }
     total
