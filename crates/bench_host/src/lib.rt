@@ -228,7 +228,7 @@ fn list_corner(listed: &mut [bool; 128], total: u64) {
 
 // Every count of a map is in the sum.
 fn sum_of(answer: Counts) -> u64 {
-    answer.made as u64 + answer.listed as u64 + answer.links as u64
+    answer.made as u64 + answer.listed as u64 + answer.links as u64 + answer.borders as u64
 }
 
 // The counts of a map: their sum.
