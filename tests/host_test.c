@@ -10,7 +10,8 @@
  * worked out here, from document 01. Asked of one place, the two calls must be refused alike, and a place that no point reaches has no weight, unless
  * the border is NaN.
  * The program is run once on each file but the lines of points, and must end with status 0 and print the file's report and nothing else. The report
- * is the stored text or, of a file made here, the text that document 01 asks for; its last line is held against the set-point at (0.5, 0.5).
+ * is the stored text or, of a file made here, the text that document 01 asks for; its last line is held against the set-point at (0.5, 0.5), and
+ * the counts of a stored file's against the answers of its edits, as far as the report shows them.
  * The line also says how much stack each of the two calls touched, which is held to what the header says; a cell may take no more than a set-point.
  */
 #define _GNU_SOURCE
@@ -616,6 +617,27 @@ struct stored {
 
 enum { STORED_SET_POINT_BYTES = 18 + GATEMAP_VALUE_BYTES, STORED_CELL_BYTES = 3 + GATEMAP_CELL_BYTES };
 
+/*
+ * The counts of a report by the answers of its edits, as far as it shows them: an edit without a line is done, 8 is torn. Each done or torn edit makes a point and a link,
+ * opens at most two sides, and each link that it infers takes two of them away again.
+ */
+static void report_counts(const char *text, size_t edits)
+{
+    long done = (long)edits, torn = 0, openings = 0, made = 0, listed = 0, links = 0;
+    for (const char *line = text; *line != 'm' || line[1] != 'i'; line = strchr(line, '\n') + 1) {
+        int number = 0;
+        if (sscanf(line, "edit %*d refused %d", &number) == 1) {
+            done--;
+            torn += number == GATEMAP_TORN;
+        }
+        sscanf(line, "made %ld listed %ld links %ld", &made, &listed, &links);
+        openings += *line == 'o';
+    }
+    long inferred = links - made, opened = openings + 2 * inferred;
+    check(made == 4 + done + torn && listed == 4 + done, "stored file %lu: %ld made, %ld listed with %ld done, %ld torn", files, made, listed, done, torn);
+    check(0 <= inferred && inferred <= opened && opened <= 2 * (done + torn), "stored file %lu: %ld inferred, %ld opened", files, inferred, opened);
+}
+
 static void stored_report(const struct stored *stored)
 {
     char line[MOST_LINE_BYTES];
@@ -624,6 +646,8 @@ static void stored_report(const struct stored *stored)
     check(end <= stored->text_length && memcmp(text + stored->text_length - end, line, end) == 0,
           "the last line of stored file %lu is not %s", files, line);
     check(prints(stored->bytes, stored->length, text, stored->text_length), "the text of stored file %lu", files);
+    if (*text != 'f')
+        report_counts(text, (stored->length - EDITS_AT) / EDIT_BYTES);
 }
 
 /* A call on a stored file: its answer's number and what it writes are stored. */
