@@ -1,5 +1,5 @@
 //! The published Rust held against the reading on many random maps: every outcome, the whole store, the listing, walks, rays, knots,
-//! evaluations and cells. The first difference stops the run.
+//! evaluations, cells and counts. The first difference stops the run.
 use crate::calls::Call;
 use crate::draw::{MapList, Plan, cell, full_map, map};
 use crate::map_calls::{MapAnswer, MapCall};
@@ -10,7 +10,7 @@ use crate::reading::Insertion;
 /// a listed point misses, and those that one of number 64 or more reaches.
 #[derive(Default)]
 pub struct Tally {
-    answers: [[u64; 16]; 11],
+    answers: [[u64; 16]; 12],
     openings: u64,
     inferred: u64,
     weighty: u64,
@@ -18,7 +18,7 @@ pub struct Tally {
     second_words: u64,
 }
 
-const WORDS: [&str; 11] = [
+const WORDS: [&str; 12] = [
     "insertion",
     "ray",
     "knots",
@@ -28,6 +28,7 @@ const WORDS: [&str; 11] = [
     "lent value",
     "set-point",
     "cell",
+    "counts",
     "direct call",
     "walk",
 ];
@@ -44,8 +45,9 @@ impl Tally {
             MapCall::Lend { .. } => 6,
             MapCall::SetPoint { .. } => 7,
             MapCall::CellPoints { .. } => 8,
-            MapCall::Direct(Call::Navigate(..)) => 10,
-            MapCall::Direct(_) => 9,
+            MapCall::Counts => 9,
+            MapCall::Direct(Call::Navigate(..)) => 11,
+            MapCall::Direct(_) => 10,
         };
         self.answers[kind][answer.number() as usize] += 1;
         match answer {
@@ -77,9 +79,9 @@ impl Tally {
     }
 }
 
-/// Rays of lengths 0 to 5 and walks from every point and side, the knots of every point, some evaluations and cells.
+/// The counts, rays of lengths 0 to 5 and walks from every point and side, the knots of every point, some evaluations and cells.
 fn probe(list: &mut MapList, random: &mut Random, tally: &mut Tally) {
-    let mut calls = Vec::new();
+    let mut calls = vec![MapCall::Counts];
     for point in 0..list.maps.made() as u8 {
         for direction in 0..4 {
             calls.extend((0..=5).map(|count| MapCall::Ray { point, direction, count }));

@@ -48,11 +48,6 @@ fn on_closed_line(store: &reading::Store, start: u8, d: usize) -> bool {
     false
 }
 
-/// How many two-way links there are.
-fn links(points: &[reading::Point]) -> usize {
-    points.iter().flat_map(|point| point.sides).filter(|side| side.is_link()).count() / 2
-}
-
 fn by_reading(example: &Example) -> String {
     let mut map = reading::Map::new(SQUARE, example.border);
     let mut answers = Vec::new();
@@ -63,7 +58,7 @@ fn by_reading(example: &Example) -> String {
             Insertion::Refused(number) => format!("refused {number}"),
         });
     }
-    let links = links(&map.store.points);
+    let links = map.store.links();
     let closed = (0..map.store.made() as u8)
         .flat_map(|start| (0..4).map(move |d| (start, d)))
         .filter(|&(start, d)| on_closed_line(&map.store, start, d))
@@ -84,7 +79,7 @@ pub fn published_side(place: usize) {
         let number = map.add_control_point([0.5; 3], con, direction, ratio);
         print!("{number} ");
     }
-    print!("links: {} ", links(&map.store.read()));
+    print!("links: {} ", reading::Store { points: map.store.read() }.links());
     match map.subs(0.5, 0.5) {
         Ok(position) => println!("evaluation: {}", hexadecimal(&position)),
         Err(number) => println!("evaluation: refused {number}"),

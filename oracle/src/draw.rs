@@ -153,12 +153,13 @@ pub fn cell(random: &mut Random, map: &Map) -> u8 {
 /// A call that asks the whole map, most often for a value.
 pub fn question(random: &mut Random, map: &Map) -> MapCall {
     let (s, t) = (parameter(random), parameter(random));
-    match random.below(11) {
+    match random.below(12) {
         0 | 1 => MapCall::Generate,
         2 => MapCall::Openings,
         3 => MapCall::Lend { s, t },
         4 => MapCall::SetPoint { s, t },
         5 => MapCall::CellPoints { cell: cell(random, map) },
+        6 => MapCall::Counts,
         _ => MapCall::Evaluate { s, t },
     }
 }
@@ -167,7 +168,7 @@ pub fn question(random: &mut Random, map: &Map) -> MapCall {
 #[derive(Clone, Copy)]
 pub struct Plan {
     pub edits: usize,
-    /// Whether the whole map is asked in between: for a value, its openings, the knots of all points, a cell.
+    /// Whether the whole map is asked in between: for a value, its openings, its counts, the knots of all points, a cell.
     pub questions: bool,
     pub direct_calls: bool,
 }

@@ -8,6 +8,7 @@ mod differences;
 mod draw;
 mod file_cases;
 mod index;
+mod ledger;
 mod map_calls;
 mod map_cases;
 mod map_file;

@@ -3,6 +3,7 @@
 use crate::bytes::{Bytes, bits_of};
 use crate::calls::{Answer, Call, assert_same_points, hold_against, perform, put_answer, put_call, put_points};
 use crate::index::{Cell, cell_of};
+use crate::ledger::{Census, Ledger, is_mirrored};
 use crate::original;
 use crate::reading::{self, FULL, Insertion, Knots, NO_POINT, RING, Side, TORN, Value, anticlockwise, clockwise};
 
@@ -21,6 +22,8 @@ pub enum MapCall {
     SetPoint { s: f64, t: f64 },
     /// Which listed points reach a cell.
     CellPoints { cell: u8 },
+    /// The counts of the map.
+    Counts,
     Direct(Call),
 }
 
@@ -36,6 +39,7 @@ pub enum MapAnswer {
     Opened(Vec<(u8, usize)>),
     /// How many points are listed, and the cell.
     Reached(usize, Result<Cell, u8>),
+    Counted(Census),
     Direct(Answer),
 }
 
@@ -50,7 +54,7 @@ impl MapAnswer {
             MapAnswer::Knotted(answer) => answer.err().unwrap_or(0),
             MapAnswer::Evaluated(answer) => answer.err().unwrap_or(0),
             MapAnswer::Generated(answer) => answer.err().unwrap_or(0),
-            MapAnswer::Opened(..) => 0,
+            MapAnswer::Opened(..) | MapAnswer::Counted(_) => 0,
             MapAnswer::Reached(_, answer) => answer.err().unwrap_or(0),
             MapAnswer::Direct(answer) => answer.number,
         }
@@ -65,6 +69,8 @@ pub struct Maps {
     pub followed: bool,
     /// Whether the knots that the two keep are the same: falling knots are sorted there.
     same_knots: bool,
+    /// What the insertions answered, until the first direct call: that changes sides by itself.
+    ledger: Option<Ledger>,
     pub corners: [[f64; 3]; 4],
     pub border: f64,
 }
@@ -80,6 +86,7 @@ impl Maps {
             original: original::Map::new(corners, border),
             followed: true,
             same_knots: true,
+            ledger: Some(Ledger::default()),
             corners,
             border,
         }
@@ -92,7 +99,9 @@ impl Maps {
     pub fn make(&mut self, call: MapCall) -> MapAnswer {
         match call {
             MapCall::Insert { con, direction, ratio, position } => {
-                MapAnswer::Inserted(self.insert(con, direction, ratio, position))
+                let answer = self.insert(con, direction, ratio, position);
+                self.ledger.iter_mut().for_each(|ledger| ledger.enter(answer));
+                MapAnswer::Inserted(answer)
             }
             MapCall::Ray { point, direction, count } => MapAnswer::Cast(self.ray(point, direction, count)),
             MapCall::Knots { point } => MapAnswer::Knotted(self.knots(point)),
@@ -101,7 +110,11 @@ impl Maps {
             MapCall::Generate => MapAnswer::Generated(self.generate()),
             MapCall::Openings => MapAnswer::Opened(self.openings()),
             MapCall::CellPoints { cell } => MapAnswer::Reached(self.reading.listed.len(), self.cell_points(cell)),
-            MapCall::Direct(call) => MapAnswer::Direct(self.direct(call)),
+            MapCall::Counts => MapAnswer::Counted(self.census()),
+            MapCall::Direct(call) => {
+                self.ledger = None;
+                MapAnswer::Direct(self.direct(call))
+            }
         }
     }
 
@@ -221,6 +234,19 @@ impl Maps {
         openings
     }
 
+    /// The counts, which are those of the published points too, and those that the answers of the insertions give.
+    pub fn census(&self) -> Census {
+        let census = counted(&self.reading.store, self.reading.listed.len());
+        if self.followed {
+            let published = reading::Store { points: self.original.store.read() };
+            assert_eq!(counted(&published, self.original.listed().len()), census, "counts of the published points");
+        }
+        if let Some(ledger) = &self.ledger {
+            assert_eq!(ledger.census(), census, "counts by the answers of the insertions");
+        }
+        census
+    }
+
     /// Both keep no knots, or the same.
     fn assert_same_knots(&self) {
         let plain = |kept: Option<Vec<Knots>>| {
@@ -248,7 +274,9 @@ impl Maps {
         answer
     }
 
+    /// Both maps are the same, as far as the published one is followed, and their counts are those of the ledger.
     pub fn assert_same(&self) {
+        self.census();
         if self.followed {
             assert_same_points(&self.reading.store.points, &self.original.store.read());
             assert_eq!(self.reading.listed, self.original.listed());
@@ -260,6 +288,12 @@ impl Maps {
             self.assert_same_knots();
         }
     }
+}
+
+/// The counts of points, each of whose links has its mirror.
+fn counted(store: &reading::Store, listed: usize) -> Census {
+    assert!(is_mirrored(store), "a link without its mirror: {:?}", store.points);
+    Census::of(store, listed)
 }
 
 /// A call's bytes: its kind, its numbers and directions, its floats. A direct call's kind is 16 more than in a list of direct calls.
@@ -285,6 +319,7 @@ pub fn put_map_call(out: &mut Bytes, call: MapCall) {
         MapCall::Lend { s, t } => at_place(6, s, t),
         MapCall::SetPoint { s, t } => at_place(7, s, t),
         MapCall::CellPoints { cell } => [8, cell].iter().for_each(|n| out.byte(*n)),
+        MapCall::Counts => out.byte(9),
         MapCall::Direct(call) => {
             let start = out.0.len();
             put_call(out, call);
@@ -302,6 +337,14 @@ fn put_openings(out: &mut Bytes, openings: &[(u8, usize)]) {
     }
 }
 
+/// The counts' bytes: points made and listed, links, borders. The openings are counted where they are listed.
+fn put_census(out: &mut Bytes, census: &Census) {
+    out.byte(census.made as u8);
+    out.byte(census.listed as u8);
+    out.pair(census.links as u16);
+    out.pair(census.borders as u16);
+}
+
 /// A cell's bytes: both words and the count.
 pub fn put_cell(out: &mut Bytes, cell: &Cell) {
     cell.words.iter().for_each(|word| out.word(*word));
@@ -309,11 +352,12 @@ pub fn put_cell(out: &mut Bytes, cell: &Cell) {
 }
 
 /// An answer's bytes: its number; of an insertion done or torn its counts; of any other that was not refused its floats, or its cell. The
-/// openings have no number.
+/// openings and the counts have no number.
 pub fn put_map_answer(out: &mut Bytes, answer: &MapAnswer) {
     match answer {
         MapAnswer::Direct(answer) => return put_answer(out, *answer),
         MapAnswer::Opened(openings) => return put_openings(out, openings),
+        MapAnswer::Counted(census) => return put_census(out, census),
         _ => {}
     }
     out.byte(answer.number());

@@ -3,10 +3,11 @@ use crate::bytes::Bytes;
 use crate::calls::Call;
 use crate::draw::{MapList, Plan, RING_PREFIXES, cell, evaluation, full_map, map, question};
 use crate::index::{Cell, LINES};
+use crate::ledger::Census;
 use crate::map_calls::{MapAnswer, MapCall, put_map, put_map_answer, put_map_call};
 use crate::map_file::bits;
 use crate::random::Random;
-use crate::reading::{BORDER, CAPACITY, DOWN, FOREIGN, FULL, INTERVAL, LEFT, NO_WEIGHT, OPEN_SIDE, RATIO, RIGHT, TORN, UP};
+use crate::reading::{BORDER, CAPACITY, DOWN, FOREIGN, FULL, INTERVAL, Insertion, LEFT, NO_WEIGHT, OPEN_SIDE, RATIO, RIGHT, TORN, UP};
 
 const ALL_RAYS: usize = 24;
 const SOME_RAYS: usize = 170;
@@ -97,6 +98,13 @@ fn square() -> MapList {
     MapList::new(SQUARE, 1.0)
 }
 
+/// The counts of a map: points made, points listed, links, borders, openings.
+fn counts(list: &mut MapList) -> [usize; 5] {
+    let MapAnswer::Counted(counted) = list.call(MapCall::Counts) else { unreachable!() };
+    let Census { made, listed, links, borders, openings } = counted;
+    [made, listed, links, borders, openings]
+}
+
 /// The readings that the description of the behaviour works out, on the square map with border 1.0.
 fn worked_examples(random: &mut Random) -> Vec<MapList> {
     let insert = |list: &mut MapList, random: &mut Random, edits: &[(u8, usize, f64)]| {
@@ -120,22 +128,27 @@ fn worked_examples(random: &mut Random) -> Vec<MapList> {
     fresh.call(MapCall::SetPoint { s: 0.5, t: 0.5 });
     fresh.call(MapCall::Lend { s: 0.5, t: 0.5 });
     fresh.call(MapCall::Openings);
+    assert_eq!(counts(&mut fresh), [4, 4, 4, 8, 0]);
     insert(&mut fresh, random, &[(0, LEFT, 0.5), (0, RIGHT, 2.0), (4, RIGHT, 0.5), (255, UP, 0.5)]);
 
     let mut at_one = square();
     insert(&mut at_one, random, &[(0, RIGHT, 1.0)]);
+    assert_eq!(counts(&mut at_one), [5, 5, 5, 9, 1]);
 
     let mut torn = square();
     let before = torn.call(MapCall::Evaluate { s: 0.25, t: 0.75 });
     insert(&mut torn, random, &[(0, RIGHT, 0.0), (4, RIGHT, 0.5)]);
     assert_same_value(&before, &torn.call(MapCall::Evaluate { s: 0.25, t: 0.75 }));
     torn.call(MapCall::Openings);
+    assert_eq!(counts(&mut torn), [5, 4, 5, 9, 1]);
     assert_same_value(&before, &torn.call(MapCall::Lend { s: 0.25, t: 0.75 }));
 
     let mut inferred = square();
     insert(&mut inferred, random, &[(0, RIGHT, 0.5)]);
     inferred.call(MapCall::Ray { point: 4, direction: UP, count: 2 });
+    assert_eq!(counts(&mut inferred), [5, 5, 5, 9, 1]);
     insert(&mut inferred, random, &[(3, RIGHT, 0.5)]);
+    assert_eq!(counts(&mut inferred), [6, 6, 7, 10, 0]);
 
     let mut infinite = square();
     infinite.call(MapCall::Direct(Call::RemoveConnection(0, RIGHT)));
@@ -147,6 +160,7 @@ fn worked_examples(random: &mut Random) -> Vec<MapList> {
     insert(&mut infinite, random, &[(3, DOWN, 0.5), (0, UP, 1.0), (2, LEFT, 0.25)]);
     infinite.call(MapCall::Evaluate { s: 0.5, t: 0.5 });
     let mut lists = vec![square(), fresh, at_one, torn, inferred, infinite, refused_knots(), no_knots(), full_line(random), all_open()];
+    lists.extend([all_linked(), counts_between(random)]);
     lists.extend([cells_kept(random), cells_refused(), cells_between(random), cells_of_grid(random)]);
     lists.extend(CELL_BORDERS.map(|border| cells_of_border(random, border)));
     lists
@@ -264,6 +278,7 @@ fn cells_of_grid(random: &mut Random) -> MapList {
         below = below.into_iter().map(|con| split(&mut list, random, con, UP, line)).collect();
     }
     every_cell(&mut list);
+    assert_eq!(counts(&mut list), [121, 121, 220, 44, 0]);
     list
 }
 
@@ -334,6 +349,7 @@ fn no_knots() -> MapList {
         assert_eq!(list.call(call).number(), BORDER);
     }
     list.call(MapCall::Openings);
+    assert_eq!(counts(&mut list), [5, 4, 2, 12, 4]);
     list
 }
 
@@ -346,6 +362,7 @@ fn full_line(random: &mut Random) -> MapList {
         con = list.maps.made() as u8 - 1;
     }
     assert_eq!(list.insert(random, con, RIGHT, 0.5).number(), FULL);
+    assert_eq!(counts(&mut list), [128, 128, 128, 132, 124]);
     assert_eq!(list.call(MapCall::Direct(Call::Make(1.0))).number(), FULL);
     for cell in 0..LINES {
         list.call(MapCall::CellPoints { cell });
@@ -353,12 +370,14 @@ fn full_line(random: &mut Random) -> MapList {
     list
 }
 
-/// The sides of a full store are opened, the last ones first: the openings are listed where one side is left, and where none is.
+/// The sides of a full store are opened, the last ones first: the openings are listed where one side is left, and where none is. Before, no
+/// store has more borders.
 fn all_open() -> MapList {
     let mut list = square();
     while list.maps.made() < CAPACITY {
         assert_eq!(list.call(MapCall::Direct(Call::Make(1.0))).number(), 0);
     }
+    assert_eq!(counts(&mut list), [128, 4, 4, 504, 0]);
     for (point, direction) in (0..CAPACITY as u8).rev().flat_map(|n| [LEFT, DOWN, RIGHT, UP].map(|d| (n, d))) {
         // The other end of a link is opened with it.
         if list.maps.reading.store.side(point, direction).is_opening() {
@@ -371,6 +390,50 @@ fn all_open() -> MapList {
     }
     let MapAnswer::Opened(openings) = list.call(MapCall::Openings) else { unreachable!() };
     assert_eq!(openings.len(), CAPACITY * 4);
+    assert_eq!(counts(&mut list), [128, 4, 0, 0, 512]);
+    list
+}
+
+/// All of these sides joined in two rings through every point: no store has more links.
+fn all_linked() -> MapList {
+    let mut list = all_open();
+    for direction in [UP, RIGHT] {
+        for point in 0..CAPACITY as u8 {
+            let next = (point + 1) % CAPACITY as u8;
+            assert_eq!(list.call(MapCall::Direct(Call::Connect(point, next, direction, 1.0))).number(), 0);
+        }
+    }
+    assert_eq!(counts(&mut list), [128, 4, 256, 0, 0]);
+    list
+}
+
+/// The counts after each insertion: done and torn ones that open one side and two, and infer no link, one and two, and a refused one.
+fn counts_between(random: &mut Random) -> MapList {
+    let edits = [
+        ((0, RIGHT, 0.0), (TORN, 1, 0)),
+        ((0, UP, 0.5), (0, 1, 0)),
+        ((1, UP, 0.5), (0, 1, 1)),
+        ((5, RIGHT, 0.0), (TORN, 2, 1)),
+        ((1, LEFT, 0.5), (0, 1, 0)),
+        ((2, LEFT, 0.5), (0, 1, 0)),
+        ((6, LEFT, 0.5), (0, 2, 2)),
+        ((10, UP, 0.5), (0, 2, 0)),
+        ((6, UP, 0.5), (0, 1, 1)),
+        ((6, UP, 0.5), (0, 1, 0)),
+        ((10, UP, 0.5), (0, 2, 1)),
+        ((5, RIGHT, 0.0), (TORN, 2, 0)),
+        ((15, RIGHT, 0.5), (FOREIGN, 0, 0)),
+    ];
+    let mut list = square();
+    for ((con, direction, ratio), told) in edits {
+        let answer = match list.insert(random, con, direction, ratio) {
+            MapAnswer::Inserted(Insertion::Done(counts)) => (0, counts.opened, counts.inferred),
+            MapAnswer::Inserted(Insertion::Torn(counts, _)) => (TORN, counts.opened, counts.inferred),
+            refused => (refused.number(), 0, 0),
+        };
+        assert_eq!(answer, told);
+        counts(&mut list);
+    }
     list
 }
 
@@ -389,6 +452,7 @@ fn edited(random: &mut Random, edits: &[(u8, usize, f64)], lengths: &[usize]) ->
     list.call(MapCall::Lend { s: 0.5, t: 0.5 });
     list.call(MapCall::CellPoints { cell: 136 });
     list.call(MapCall::Openings);
+    list.call(MapCall::Counts);
     rays(&mut list, lengths);
     list
 }
@@ -415,6 +479,7 @@ fn some_rays(list: &mut MapList, random: &mut Random) {
         list.call(MapCall::Knots { point });
     }
     list.call(MapCall::Openings);
+    list.call(MapCall::Counts);
     let question = question(random, &list.maps.reading);
     list.call(question);
     some_cells(list, random, 4);

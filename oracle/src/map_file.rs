@@ -2,8 +2,9 @@
 //! describes them. The map itself is run on both sides, as everywhere in the comparison.
 use crate::bytes::bits_of;
 use crate::index::Cell;
+use crate::ledger::{Census, Ledger};
 use crate::map_calls::{MapAnswer, MapCall, Maps};
-use crate::reading::{RIGHT, Refused, Side, UP, Value, opposite};
+use crate::reading::{Refused, Value};
 
 pub const LENGTH: u8 = 12;
 pub const VERSION: u8 = 13;
@@ -122,14 +123,14 @@ impl Run {
         answer
     }
 
-    /// The links that lead back: each is counted at one of its ends.
-    fn links(&self) -> usize {
-        let points = &self.maps.reading.store.points;
-        let leads_back = |n: usize, d: usize| {
-            let Side::Link(other, _) = points[n].sides[d] else { return false };
-            matches!(points[other as usize].sides[opposite(d)], Side::Link(back, _) if back as usize == n)
-        };
-        (0..points.len()).flat_map(|n| [(n, UP), (n, RIGHT)]).filter(|&(n, d)| leads_back(n, d)).count()
+    /// The counts that the answers of the edits give.
+    fn by_answers(&self) -> Census {
+        let mut ledger = Ledger::default();
+        for answer in &self.answers {
+            let MapAnswer::Inserted(answer) = answer else { unreachable!() };
+            ledger.enter(*answer);
+        }
+        ledger.census()
     }
 }
 
@@ -139,7 +140,7 @@ pub fn bits(value: &Value) -> [u64; 4] {
     [x, y, z, value.weight].map(bits_of)
 }
 
-/// All that the program prints of a file.
+/// All that the program prints of a file. Its line of counts and its lines of openings are as many as the answers of the edits say.
 pub fn text(file: &[u8]) -> String {
     let mut run = match read(file) {
         Ok(file) => run(&file),
@@ -151,8 +152,11 @@ pub fn text(file: &[u8]) -> String {
             text += &format!("edit {} refused {}\n", k + 1, answer.number());
         }
     }
-    text += &format!("made {} listed {} links {}\n", run.maps.made(), run.maps.reading.listed.len(), run.links());
-    for (point, direction) in run.maps.reading.store.openings() {
+    let counted = run.maps.census();
+    let openings = run.maps.reading.store.openings();
+    assert_eq!(Census { openings: openings.len(), ..counted }, run.by_answers(), "the counts printed");
+    text += &format!("made {} listed {} links {}\n", counted.made, counted.listed, counted.links);
+    for (point, direction) in openings {
         text += &format!("open {point} {direction}\n");
     }
     text + &match run.set_point(0.5, 0.5) {

@@ -106,7 +106,7 @@ fn lines<C: Debug>(calls: &[C]) -> String {
     calls.iter().map(|call| format!("\n    {call:?}")).collect()
 }
 
-/// Rays of length 5 from every point and side, the knots of every point, the openings, and values and cells, after what was drawn. Somewhere among
+/// Rays of length 5 from every point and side, the knots of every point, the openings, the counts, and values and cells, after what was drawn. Somewhere among
 /// the values the knots of all points are built anew.
 fn probed(mut list: MapList, random: &mut Random) -> MapList {
     for point in 0..list.maps.made() as u8 {
@@ -116,6 +116,7 @@ fn probed(mut list: MapList, random: &mut Random) -> MapList {
         list.call(MapCall::Knots { point });
     }
     list.call(MapCall::Openings);
+    list.call(MapCall::Counts);
     let generation = random.below(VALUES + 1);
     for value in 0..VALUES {
         if value == generation {
@@ -136,6 +137,7 @@ fn map_list(random: &mut Random, place: usize) -> MapList {
     if place % 100 == 0 {
         let mut list = full_map(random);
         map_cases::some_cells(&mut list, random, CELLS);
+        list.call(MapCall::Counts);
         return list;
     }
     let edits = random.of(&[3, 6, 10, 20, 40]);

@@ -179,6 +179,20 @@ impl Store {
         sides.filter(|&(n, d)| self.side(n, d).is_opening()).collect()
     }
 
+    /// The two-way links, those that lead back: each is counted at the end that it leaves Up or Right.
+    pub fn links(&self) -> usize {
+        let leads_back = |n: u8, d: usize| {
+            let Side::Link(other, _) = self.side(n, d) else { return false };
+            matches!(self.side(other, opposite(d)), Side::Link(back, _) if back == n)
+        };
+        (0..self.made() as u8).flat_map(|n| [(n, UP), (n, RIGHT)]).filter(|&(n, d)| leads_back(n, d)).count()
+    }
+
+    /// The borders of the points made.
+    pub fn borders(&self) -> usize {
+        self.points.iter().flat_map(|point| point.sides).filter(|side| side.is_border()).count()
+    }
+
     /// The point over a side and the interval to it; over an opening 3, over a border 4.
     fn step(&self, point: u8, d: usize) -> Refused<(u8, f64)> {
         match self.side(point, d) {
