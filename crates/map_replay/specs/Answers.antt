@@ -8,6 +8,7 @@ use lib.Ieee.{Float, nan}
 use lib.ListN.{drop, getD, length}
 use Rattle.cells.specs.declared.CellAnswer.{CellAnswer}
 use Rattle.cells.specs.declared.CellAnswer.the-variants.{Is as Reaches, Refused as NotAsked}
+use Rattle.census.specs.declared.census.Counts.{Counts}
 use Rattle.counting.specs.Counting.{countBelow}
 use Rattle.control_point.specs.Refusal.{refusalNumber}
 use Rattle.control_point.specs.Told.{outcomeNumber}
@@ -102,6 +103,15 @@ cellIsRight words bytes = (eqb (words .first) (numberAt 8 bytes 0) && eqb (words
 unfoldable pub cellJudged : CellAnswer → List ℕ → Judged
 cellJudged (Reaches words) call = record { right = eqb (byteAt call 2) 0 && cellIsRight words (drop 3 call); bytes = 20 }
 cellJudged (NotAsked refusal) call = record { right = eqb (byteAt call 2) (refusalNumber refusal); bytes = 3 }
+
+-- the counts of a map held against the stored ones, which have no number: the points made and listed in a byte each, the links and the borders in two
+abbrev pub countsJudged : Counts → List ℕ → Judged
+countsJudged counts call = record {
+  right =
+      (eqb (counts .made) (byteAt call 1) && eqb (counts .listed) (byteAt call 2))
+      && (eqb (counts .links) (numberAt 2 call 3) && eqb (counts .borders) (numberAt 2 call 5));
+  bytes = 7;
+}
 
 -- ---- the openings
 -- the byte at a place where so many are stored; behind them 0

@@ -4,13 +4,14 @@ ghost use mathlib.Core.Bool.{true, cond};
 ghost use Prim.Native.Nat.{_≤_};
 ghost use Rattle.counting.specs.Counting.{countBelow};
 ghost use Rattle.t_mesh.specs.Tmesh.{listedIn};
-ghost use Rattle.map_replay.specs.Answers.{countsAreRight, insertionJudged, floatsAreRight, outcomeIsRight, bytesTaken, rayJudged, knotsJudged, valueIsRight, evaluationJudged, generationJudged, cellIsRight, cellJudged};
+ghost use Rattle.map_replay.specs.Answers.{countsAreRight, insertionJudged, floatsAreRight, outcomeIsRight, bytesTaken, rayJudged, knotsJudged, valueIsRight, evaluationJudged, generationJudged, cellIsRight, cellJudged, countsJudged};
 ghost use Rattle.map_replay.specs.Answers.{entryByte, entriesAreRight, openingsJudged, flagIsAt, listingIsRight, positionIsRight, positionsAreRight, rowIsRight, rowsAreRight, shapeIsRight, keptAreRight, mapBytes, mapIsRight};
 use big_endian::after;
 use big_endian::byte_at;
 use big_endian::number_at;
 use big_endian::pair_at;
 use cells::CellAnswer;
+use census::census::Counts;
 use control_point::refusal::Outcome;
 use control_point::sides::wide;
 use grid_index::Cell;
@@ -191,6 +192,18 @@ pub fn judge_cell(answer: CellAnswer, call: &[u8]) -> Judged
             bytes: 3,
         },
     }
+}
+
+// The counts of a map: the points made, the points listed, the links and the borders.
+pub fn judge_counts(counts: Counts, call: &[u8]) -> Judged
+    ensures { λ r. ⌜ r ≡ countsJudged counts (now (call .entry)) ⌝ }
+{
+    let made = counts.made == byte_at(call, 1);
+    let listed = counts.listed == byte_at(call, 2);
+    let links = counts.links as usize == pair_at(call, 3);
+    let borders = counts.borders as usize == pair_at(call, 5);
+    let right = both(both(made, listed), both(links, borders));
+    Judged { right, bytes: 7 }
 }
 
 // 1 where it holds, else 0.

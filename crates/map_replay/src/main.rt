@@ -3,9 +3,11 @@ ghost use mathlib.Core.Path.{_≡_};
 ghost use Rattle.map_replay.specs.Answers.{positionAt};
 
 mod answers;
+mod ledger;
 
 use crate::answers::Judged;
 use crate::answers::judge_cell;
+use crate::answers::judge_counts;
 use crate::answers::judge_evaluation;
 use crate::answers::judge_generation;
 use crate::answers::judge_insertion;
@@ -13,11 +15,17 @@ use crate::answers::judge_knots;
 use crate::answers::judge_openings;
 use crate::answers::judge_ray;
 use crate::answers::map_is_right;
+use crate::ledger::DIRECT;
+use crate::ledger::INSERTION;
+use crate::ledger::ledger_holds;
+use crate::ledger::no_calls;
+use crate::ledger::with_call;
 use big_endian::after;
 use big_endian::byte_at;
 use big_endian::float_at;
 use big_endian::pair_at;
 use cells::cell_points;
+use census::counts::counts;
 use control_point::sides::wide;
 use control_point::small::closeness;
 use control_point::t_mesh_direction::TmeshDirection;
@@ -50,8 +58,6 @@ const MOST_LISTS: u64 = 1000000;
 // Where a list's calls begin.
 const CALLS: usize = 106;
 
-const INSERTION: u8 = 0;
-
 const RAY: u8 = 1;
 
 const KNOTS: u8 = 2;
@@ -66,8 +72,7 @@ const SET_POINT: u8 = 7;
 
 const CELL: u8 = 8;
 
-// The first of the kinds that are direct calls.
-const DIRECT: u8 = 16;
+const COUNTS: u8 = 9;
 
 // A call made: the map after it, whether it answered what is stored, and how many bytes it takes.
 struct MapReplayed {
@@ -143,6 +148,15 @@ fn replay_cell(call: &[u8], map: Tmesh) -> MapReplayed {
     }
 }
 
+fn replay_counts(call: &[u8], map: Tmesh) -> MapReplayed {
+    let judged = judge_counts(counts(map), call);
+    MapReplayed {
+        map,
+        right: judged.right,
+        bytes: judged.bytes,
+    }
+}
+
 // The arrays start with every number listed, so that what lending leaves in them is seen.
 fn replay_lent(call: &[u8], map: Tmesh) -> MapReplayed {
     let row = [1.0; 5];
@@ -195,7 +209,7 @@ fn replay_ray(call: &[u8], store: Store) -> Judged {
     ray_into(call, store, &mut buffer[0..length])
 }
 
-// A call that leaves the map as it is: a ray, a point's knots, or the openings.
+// A call that reads the points and leaves the map as it is: a ray, a point's knots, or the openings.
 fn replay_reading(kind: u8, call: &[u8], store: Store) -> Judged {
     if kind == RAY {
         return replay_ray(call, store);
@@ -221,13 +235,16 @@ fn replay_direct(kind: u8, call: &[u8], map: Tmesh) -> MapReplayed {
     }
 }
 
-// A call that asks for a value or a cell, or builds the knots of all listed points.
+// A call that asks for a value, a cell or the counts, or builds the knots of all listed points.
 fn replay_value(kind: u8, call: &[u8], map: Tmesh) -> MapReplayed {
     if kind == SET_POINT {
         return replay_set_point(call, map);
     }
     if kind == CELL {
         return replay_cell(call, map);
+    }
+    if kind == COUNTS {
+        return replay_counts(call, map);
     }
     if kind == GENERATION {
         return replay_generation(call, map);
@@ -238,7 +255,7 @@ fn replay_value(kind: u8, call: &[u8], map: Tmesh) -> MapReplayed {
     replay_evaluation(call, map)
 }
 
-// Whether a call of a kind leaves the map as it is.
+// Whether a call of a kind reads the points alone.
 fn is_reading(kind: u8) -> bool {
     kind == RAY || kind == KNOTS || kind == OPENINGS
 }
@@ -276,9 +293,11 @@ fn new_map(list: &[u8]) -> Tmesh {
     )
 }
 
-// Whether every call of a list answers what is stored, the last leaves the map that is stored, and nothing stands behind it. A list that ends within its calls is wrong.
+// Whether every call of a list answers what is stored, and the last leaves the map that is stored, behind which nothing stands, with the counts that the
+// stored answers of the insertions say. A list that ends within its calls is wrong.
 fn is_right(list: &[u8]) -> bool {
     let mut map = new_map(list);
+    let mut ledger = no_calls();
     let mut right = true;
     let mut left = pair_at(list, 104);
     let mut at: usize = CALLS;
@@ -293,11 +312,13 @@ fn is_right(list: &[u8]) -> bool {
         }
         right = both(right, replayed.right);
         at += replayed.bytes;
+        ledger = with_call(ledger, call);
         let next = replayed.map;
         map = next;
         left -= 1;
     }
-    both(right, map_is_right(map, after(list, at)))
+    let whole = both(right, map_is_right(map, after(list, at)));
+    both(whole, ledger_holds(ledger, map))
 }
 
 // Fills so many bytes of a buffer, or says that there are no more.

@@ -7,13 +7,16 @@ use Rattle.map_replay.proofs.is_right.Statement.{statement}
 use Rattle.map_replay.proofs.is_right.Tie as tie
 
 abbrev Inv-loop : tie.InvT-loop
-Inv-loop list map₀ right₀ left₀ at₀ map right left at = at ≤ length list
+Inv-loop list map₀ ledger₀ right₀ left₀ at₀ map ledger right left at = at ≤ length list
 
 abbrev μ-loop : tie.MeasureT-loop
-μ-loop list map₀ right₀ left₀ at₀ map right left at = left
+μ-loop list map₀ ledger₀ right₀ left₀ at₀ map ledger right left at = left
 
 new-map-requires : tie.Need-new-map-requires Inv-loop μ-loop
 new-map-requires c κs = search needs
+
+no-calls-requires : tie.Need-no-calls-requires Inv-loop μ-loop
+no-calls-requires c κs = search needs
 
 pair-at-requires : tie.Need-pair-at-requires Inv-loop μ-loop
 pair-at-requires c κs = search needs
@@ -46,7 +49,11 @@ add-at : tie.Need-add-at Inv-loop μ-loop
 add-at c =
     let within = c .before .before in
     let l = within .before .before .before .before .before .before in
-    record { fits = omega (arith, within .if2 .left, l .loop .inv) }
+    let start = l .before .before .before .before .before .before in
+    record { fits = omega (arith, within .if2 .left, l .loop .inv, start .good) }
+
+with-call-requires : tie.Need-with-call-requires Inv-loop μ-loop
+with-call-requires c κs = search needs
 
 sub-left : tie.Need-sub-left Inv-loop μ-loop
 sub-left c = search needs
@@ -66,6 +73,12 @@ map-is-right-requires c κs = search needs
 both-requires-2 : tie.Need-both-requires-2 Inv-loop μ-loop
 both-requires-2 c κs = search needs
 
+ledger-holds-requires : tie.Need-ledger-holds-requires Inv-loop μ-loop
+ledger-holds-requires c κs = search needs
+
+both-requires-3 : tie.Need-both-requires-3 Inv-loop μ-loop
+both-requires-3 c κs = search needs
+
 returns-3 : tie.Need-returns-3 Inv-loop μ-loop
 returns-3 c = search needs
 
@@ -76,6 +89,7 @@ is-right-spec =
     Inv-loop
     μ-loop
     new-map-requires
+    no-calls-requires
     pair-at-requires
     returns
     loop-holds
@@ -86,10 +100,13 @@ is-right-spec =
     returns-2
     both-requires
     add-at
+    with-call-requires
     sub-left
     loop-less
     loop-again
     after-requires-2
     map-is-right-requires
     both-requires-2
+    ledger-holds-requires
+    both-requires-3
     returns-3)

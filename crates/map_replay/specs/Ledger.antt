@@ -1,0 +1,71 @@
+-- The ledger of sides (Ticket 4 of document 02) by the stored answers of a list's insertions: with C the insertions done or torn, O and I the sums of their
+-- opened and inferred counts, there are 4 + C points made, 4 + C + I two-way links, 8 + 2 × C − O borders and O − 2 × I openings; and 4 points more are listed
+-- than insertions are done. Nothing here asks what an insertion does: the totals are of stored bytes, the counts are of the map.
+use Prim.Native.Nat.{ℕ, _+_, _*_, _%_}
+use mathlib.Core.Bool.{Bool, true, false, cond, _&&_}
+use mathlib.Core.List.{List}
+use lib.Dec.{eqb, ltb}
+use lib.ListN.{length}
+use Rattle.big_endian.specs.BigEndian.{byteAt}
+use Rattle.census.specs.Census.{countsOf}
+use Rattle.census.specs.declared.census.Counts.{Counts}
+use Rattle.openings.specs.Openings.{openingsOf}
+use Rattle.t_mesh.specs.Tmesh.{storeOf}
+use Rattle.t_mesh.specs.declared.t_mesh.Tmesh.{Tmesh}
+use Rattle.map_replay.specs.declared.ledger.Ledger.{Ledger}
+
+-- ---- the totals
+abbrev pub noCalls : Ledger
+noCalls = record { done = 0; torn = 0; opened = 0; inferred = 0; direct = false }
+
+-- a total with more in it. A list has at most 65,535 calls, and each adds at most 255: no total is as large as 2 to the 31st
+abbrev pub withMore : ℕ → ℕ → ℕ
+withMore total more = total % 2147483648 + more
+
+-- after an insertion that made a point; its counts stand at 36 and 37
+abbrev pub withPoint : Ledger → ℕ → ℕ → List ℕ → Ledger
+withPoint ledger done torn call = record {
+  done = withMore (ledger .done) done;
+  torn = withMore (ledger .torn) torn;
+  opened = withMore (ledger .opened) (byteAt call 36);
+  inferred = withMore (ledger .inferred) (byteAt call 37);
+  direct = ledger .direct;
+}
+
+-- after an insertion, by the number at 35: 0 is done, 8 is torn, any other a refusal, which made no point
+abbrev pub withInsertion : Ledger → List ℕ → Ledger
+withInsertion ledger call =
+    cond (eqb (byteAt call 35) 0) (withPoint ledger 1 0 call) (cond (eqb (byteAt call 35) 8) (withPoint ledger 0 1 call) ledger)
+
+abbrev pub withDirectCall : Ledger → Ledger
+withDirectCall ledger = record {
+  done = ledger .done;
+  torn = ledger .torn;
+  opened = ledger .opened;
+  inferred = ledger .inferred;
+  direct = true;
+}
+
+-- after a call, by its kind: 0 is an insertion, 16 and above a direct call; any other changes no side
+abbrev pub withCall : Ledger → List ℕ → Ledger
+withCall ledger call = cond (eqb (byteAt call 0) 0) (withInsertion ledger call) (cond (ltb (byteAt call 0) 16) ledger (withDirectCall ledger))
+
+-- ---- the counts
+abbrev pub inserted : Ledger → ℕ
+inserted ledger = ledger .done + ledger .torn
+
+abbrev pub pointsAreRight : Ledger → Counts → Bool
+pointsAreRight ledger counts = eqb (counts .made) (4 + inserted ledger) && eqb (counts .listed) (4 + ledger .done)
+
+-- what the request subtracts is added on the other side, so that nothing is cut off at 0
+abbrev pub sidesAreRight : Ledger → Counts → ℕ → Bool
+sidesAreRight ledger counts openings =
+    eqb (counts .links) (4 + inserted ledger + ledger .inferred)
+    && (eqb (counts .borders + ledger .opened) (8 + 2 * inserted ledger) && eqb (openings + 2 * ledger .inferred) (ledger .opened))
+
+-- whether the counts are what the totals say, where no direct call was made
+abbrev pub ledgerIsRight : Ledger → Counts → ℕ → Bool
+ledgerIsRight ledger counts openings = cond (ledger .direct) true (pointsAreRight ledger counts && sidesAreRight ledger counts openings)
+
+abbrev pub ledgerHolds : Ledger → Tmesh → Bool
+ledgerHolds ledger map = ledgerIsRight ledger (countsOf map) (length (openingsOf (storeOf map)))
