@@ -28,6 +28,7 @@ fn main() {
         Some("store") => store_cases::write(SEED),
         Some("map") => map_cases::write(SEED),
         Some("files") => file_cases::write(SEED),
+        Some("sample") => map_file::write_sample_answers(),
         Some("compare") => {
             let maps = words.get(1).map_or(20000, |word| word.parse().expect("a number of maps"));
             let seed = words.get(2).map_or(SEED, |word| word.parse().expect("a seed"));
@@ -45,6 +46,6 @@ fn main() {
         }
         Some("differences") => differences::show(),
         Some("published-side") => differences::published_side(words[1].parse().expect("the number of an example")),
-        _ => println!("words: basis store map files compare proved bound differences"),
+        _ => println!("words: basis store map files sample compare proved bound differences"),
     }
 }

@@ -5,7 +5,7 @@ use crate::draw::{MapList, Plan, RING_PREFIXES, cell, evaluation, full_map, map,
 use crate::index::{Cell, LINES};
 use crate::ledger::Census;
 use crate::map_calls::{MapAnswer, MapCall, put_map, put_map_answer, put_map_call};
-use crate::map_file::bits;
+use crate::map_file::{bits, sample};
 use crate::random::Random;
 use crate::reading::{BORDER, CAPACITY, DOWN, FOREIGN, FULL, INTERVAL, Insertion, LEFT, NO_WEIGHT, OPEN_SIDE, RATIO, RIGHT, TORN, UP};
 
@@ -160,7 +160,7 @@ fn worked_examples(random: &mut Random) -> Vec<MapList> {
     insert(&mut infinite, random, &[(3, DOWN, 0.5), (0, UP, 1.0), (2, LEFT, 0.25)]);
     infinite.call(MapCall::Evaluate { s: 0.5, t: 0.5 });
     let mut lists = vec![square(), fresh, at_one, torn, inferred, infinite, refused_knots(), no_knots(), full_line(random), all_open()];
-    lists.extend([all_linked(), counts_between(random)]);
+    lists.extend([all_linked(), counts_between(random), of_sample()]);
     lists.extend([cells_kept(random), cells_refused(), cells_between(random), cells_of_grid(random)]);
     lists.extend(CELL_BORDERS.map(|border| cells_of_border(random, border)));
     lists
@@ -404,6 +404,18 @@ fn all_linked() -> MapList {
         }
     }
     assert_eq!(counts(&mut list), [128, 4, 256, 0, 0]);
+    list
+}
+
+/// The edits of the sample whose answers a page shows, and the counts and openings that they leave.
+fn of_sample() -> MapList {
+    let file = sample();
+    let mut list = MapList::new(file.corners, file.border);
+    for edit in &file.edits {
+        list.call(edit.call());
+    }
+    assert_eq!(counts(&mut list), [18, 17, 26, 16, 4]);
+    list.call(MapCall::Openings);
     list
 }
 

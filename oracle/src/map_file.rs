@@ -4,7 +4,7 @@ use crate::bytes::bits_of;
 use crate::index::Cell;
 use crate::ledger::{Census, Ledger};
 use crate::map_calls::{MapAnswer, MapCall, Maps};
-use crate::reading::{Refused, Value};
+use crate::reading::{Insertion, Refused, Value};
 
 pub const LENGTH: u8 = 12;
 pub const VERSION: u8 = 13;
@@ -29,6 +29,14 @@ pub struct Edit {
     pub direction: u8,
     pub ratio: f64,
     pub position: [f64; 3],
+}
+
+impl Edit {
+    /// The edit as a call.
+    pub fn call(&self) -> MapCall {
+        let Edit { point, direction, ratio, position } = *self;
+        MapCall::Insert { con: point, direction: direction as usize, ratio, position }
+    }
 }
 
 pub struct MapFile {
@@ -108,11 +116,7 @@ pub struct Run {
 
 pub fn run(file: &MapFile) -> Run {
     let mut maps = Maps::new(file.corners, file.border);
-    let insert = |edit: &Edit| {
-        let Edit { point, direction, ratio, position } = *edit;
-        maps.make(MapCall::Insert { con: point, direction: direction as usize, ratio, position })
-    };
-    let answers = file.edits.iter().map(insert).collect();
+    let answers = file.edits.iter().map(|edit| maps.make(edit.call())).collect();
     maps.assert_same();
     Run { maps, answers }
 }
@@ -166,6 +170,32 @@ pub fn text(file: &[u8]) -> String {
         }
         Err(number) => format!("mid refused {number}\n"),
     }
+}
+
+/// A sample and the answers of its edits, which a page shows.
+const SAMPLE: &str = "samples/dryer.map";
+const ANSWERS: &str = "samples/dryer.answers";
+
+pub fn sample() -> MapFile {
+    read(&std::fs::read(SAMPLE).expect("the sample can be read")).expect("the sample is valid")
+}
+
+/// What the edits of the sample answer, one a line.
+fn sample_answers() -> String {
+    let line = |answer: &MapAnswer| match answer {
+        MapAnswer::Inserted(Insertion::Done(counts)) => format!("done {} {}\n", counts.opened, counts.inferred),
+        MapAnswer::Inserted(Insertion::Torn(counts, _)) => format!("torn {} {}\n", counts.opened, counts.inferred),
+        other => format!("refused {}\n", other.number()),
+    };
+    run(&sample()).answers.iter().map(line).collect()
+}
+
+pub fn write_sample_answers() {
+    std::fs::write(ANSWERS, sample_answers()).expect("the answers can be written");
+}
+
+pub fn assert_sample_answers() {
+    assert_eq!(std::fs::read_to_string(ANSWERS).expect("the answers can be read"), sample_answers(), "{ANSWERS}");
 }
 
 /// What the C call for a cell answers: 16 before all else, then the file's refusal, then that of building the knots.

@@ -8,6 +8,7 @@ use crate::draw::{MapList, Plan, full_map, map, parameter};
 use crate::file_cases;
 use crate::map_calls::MapCall;
 use crate::map_cases;
+use crate::map_file;
 use crate::random::Random;
 use crate::store_cases;
 use std::fmt::Debug;
@@ -237,6 +238,7 @@ pub fn bound(seed: u64, evaluations: usize) {
 
 /// So many maps, as many map files and lists of direct calls, and six times as many basis cases, all from one seed.
 pub fn compare(seed: u64, count: usize) {
+    map_file::assert_sample_answers();
     let mut random = Random::new(seed);
     let different =
         maps(&mut random, count) + files(&mut random, count) + stores(&mut random, count) + bases(&mut random, 6 * count);

@@ -29,15 +29,15 @@ use Rattle.soundness.specs.Theorems.{EveryMap}
 use Rattle.ledger.specs.Ledger.{pointsAdded, sidesOpened, linksInferred, countsBy, openingsBy}
 
 -- an answer before others, if it is an insertion's
-abbrev pub withInsertion : Answer → List InsertAnswer → List InsertAnswer
-withInsertion (inserted answer) rest = answer ∷ rest
-withInsertion (evaluated answer) rest = rest
-withInsertion (questioned answer) rest = rest
+abbrev pub answerBefore : Answer → List InsertAnswer → List InsertAnswer
+answerBefore (inserted answer) rest = answer ∷ rest
+answerBefore (evaluated answer) rest = rest
+answerBefore (questioned answer) rest = rest
 
 -- what the insertions of a run answered, in order
 unfoldable pub insertionAnswers : List Event → List InsertAnswer
 insertionAnswers [] = []
-insertionAnswers (event ∷ rest) = withInsertion (event .answer) (insertionAnswers rest)
+insertionAnswers (event ∷ rest) = answerBefore (event .answer) (insertionAnswers rest)
 
 -- a map, and what the insertions answered that made it from a fresh one: the points made and listed, the two-way links and the borders; the openings; both differences whole; the mirrors
 pub record Ledger (map : Tmesh) (answers : List InsertAnswer) : Type 0 where

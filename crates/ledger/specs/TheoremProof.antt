@@ -38,7 +38,7 @@ use Rattle.soundness.specs.InsertionLaws.{Grown}
 use Rattle.soundness.specs.MapCalls.{entry, mapAfterAll, entries}
 use Rattle.soundness.specs.MapLaws.{SoundMesh, unlisted, insertion-grown, ready-mesh, sound-call, listing-call}
 use Rattle.ledger.specs.Ledger.{madeBy, listedBy, openedBy, inferredBy, total, pointsAdded, pointsListed, sidesOpened, linksInferred, countsBy}
-use Rattle.ledger.specs.Theorem.{withInsertion, insertionAnswers, Ledger, LedgerOfSides}
+use Rattle.ledger.specs.Theorem.{insertionAnswers, Ledger, LedgerOfSides}
 use Rattle.ledger.specs.PriceLaws.{Price, worth}
 use Rattle.ledger.specs.ChangeLaws.{worthOf, Prices}
 use Rattle.ledger.specs.BookingLaws.{Booked, books}

@@ -12,10 +12,10 @@ use Rattle.census.specs.declared.census.Counts.{Counts}
 use Rattle.openings.specs.Openings.{openingsOf}
 use Rattle.t_mesh.specs.Tmesh.{storeOf}
 use Rattle.t_mesh.specs.declared.t_mesh.Tmesh.{Tmesh}
-use Rattle.map_replay.specs.declared.ledger.Ledger.{Ledger}
+use Rattle.map_replay.specs.declared.ledger.Totals.{Totals}
 
 -- ---- the totals
-abbrev pub noCalls : Ledger
+abbrev pub noCalls : Totals
 noCalls = record { done = 0; torn = 0; opened = 0; inferred = 0; direct = false }
 
 -- a total with more in it. A list has at most 65,535 calls, and each adds at most 255: no total is as large as 2 to the 31st
@@ -23,7 +23,7 @@ abbrev pub withMore : ℕ → ℕ → ℕ
 withMore total more = total % 2147483648 + more
 
 -- after an insertion that made a point; its counts stand at 36 and 37
-abbrev pub withPoint : Ledger → ℕ → ℕ → List ℕ → Ledger
+abbrev pub withPoint : Totals → ℕ → ℕ → List ℕ → Totals
 withPoint ledger done torn call = record {
   done = withMore (ledger .done) done;
   torn = withMore (ledger .torn) torn;
@@ -33,11 +33,11 @@ withPoint ledger done torn call = record {
 }
 
 -- after an insertion, by the number at 35: 0 is done, 8 is torn, any other a refusal, which made no point
-abbrev pub withInsertion : Ledger → List ℕ → Ledger
+abbrev pub withInsertion : Totals → List ℕ → Totals
 withInsertion ledger call =
     cond (eqb (byteAt call 35) 0) (withPoint ledger 1 0 call) (cond (eqb (byteAt call 35) 8) (withPoint ledger 0 1 call) ledger)
 
-abbrev pub withDirectCall : Ledger → Ledger
+abbrev pub withDirectCall : Totals → Totals
 withDirectCall ledger = record {
   done = ledger .done;
   torn = ledger .torn;
@@ -47,25 +47,25 @@ withDirectCall ledger = record {
 }
 
 -- after a call, by its kind: 0 is an insertion, 16 and above a direct call; any other changes no side
-abbrev pub withCall : Ledger → List ℕ → Ledger
+abbrev pub withCall : Totals → List ℕ → Totals
 withCall ledger call = cond (eqb (byteAt call 0) 0) (withInsertion ledger call) (cond (ltb (byteAt call 0) 16) ledger (withDirectCall ledger))
 
 -- ---- the counts
-abbrev pub inserted : Ledger → ℕ
-inserted ledger = ledger .done + ledger .torn
+abbrev pub doneOrTorn : Totals → ℕ
+doneOrTorn ledger = ledger .done + ledger .torn
 
-abbrev pub pointsAreRight : Ledger → Counts → Bool
-pointsAreRight ledger counts = eqb (counts .made) (4 + inserted ledger) && eqb (counts .listed) (4 + ledger .done)
+abbrev pub pointsAreRight : Totals → Counts → Bool
+pointsAreRight ledger counts = eqb (counts .made) (4 + doneOrTorn ledger) && eqb (counts .listed) (4 + ledger .done)
 
 -- what the request subtracts is added on the other side, so that nothing is cut off at 0
-abbrev pub sidesAreRight : Ledger → Counts → ℕ → Bool
+abbrev pub sidesAreRight : Totals → Counts → ℕ → Bool
 sidesAreRight ledger counts openings =
-    eqb (counts .links) (4 + inserted ledger + ledger .inferred)
-    && (eqb (counts .borders + ledger .opened) (8 + 2 * inserted ledger) && eqb (openings + 2 * ledger .inferred) (ledger .opened))
+    eqb (counts .links) (4 + doneOrTorn ledger + ledger .inferred)
+    && (eqb (counts .borders + ledger .opened) (8 + 2 * doneOrTorn ledger) && eqb (openings + 2 * ledger .inferred) (ledger .opened))
 
 -- whether the counts are what the totals say, where no direct call was made
-abbrev pub ledgerIsRight : Ledger → Counts → ℕ → Bool
+abbrev pub ledgerIsRight : Totals → Counts → ℕ → Bool
 ledgerIsRight ledger counts openings = cond (ledger .direct) true (pointsAreRight ledger counts && sidesAreRight ledger counts openings)
 
-abbrev pub ledgerHolds : Ledger → Tmesh → Bool
+abbrev pub ledgerHolds : Totals → Tmesh → Bool
 ledgerHolds ledger map = ledgerIsRight ledger (countsOf map) (length (openingsOf (storeOf map)))

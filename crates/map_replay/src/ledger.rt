@@ -18,7 +18,7 @@ pub const DIRECT: u8 = 16;
 const MOST: u32 = 0x8000_0000;
 
 // The insertions done and those torn, the sums of their counts, and whether a direct call was made, which may change sides by itself.
-pub struct Ledger {
+pub struct Totals {
     pub done: u32,
     pub torn: u32,
     pub opened: u32,
@@ -26,10 +26,10 @@ pub struct Ledger {
     pub direct: bool,
 }
 
-pub fn no_calls() -> Ledger
+pub fn no_calls() -> Totals
     ensures { λ r. ⌜ r ≡ noCalls ⌝ }
 {
-    Ledger {
+    Totals {
         done: 0,
         torn: 0,
         opened: 0,
@@ -46,10 +46,10 @@ fn with_more(total: u32, more: u8) -> u32
 }
 
 // An insertion that made a point, done or torn: its two counts are added.
-fn with_point(ledger: Ledger, done: u8, torn: u8, call: &[u8]) -> Ledger
+fn with_point(ledger: Totals, done: u8, torn: u8, call: &[u8]) -> Totals
     ensures { λ r. ⌜ r ≡ withPoint ledger done torn (now (call .entry)) ⌝ }
 {
-    Ledger {
+    Totals {
         done: with_more(ledger.done, done),
         torn: with_more(ledger.torn, torn),
         opened: with_more(ledger.opened, byte_at(call, 36)),
@@ -59,7 +59,7 @@ fn with_point(ledger: Ledger, done: u8, torn: u8, call: &[u8]) -> Ledger
 }
 
 // An insertion, by the number that is stored: 0 done, 8 torn, any other refused.
-fn with_insertion(ledger: Ledger, call: &[u8]) -> Ledger
+fn with_insertion(ledger: Totals, call: &[u8]) -> Totals
     ensures { λ r. ⌜ r ≡ withInsertion ledger (now (call .entry)) ⌝ }
 {
     let number = byte_at(call, 35);
@@ -72,10 +72,10 @@ fn with_insertion(ledger: Ledger, call: &[u8]) -> Ledger
     ledger
 }
 
-fn with_direct_call(ledger: Ledger) -> Ledger
+fn with_direct_call(ledger: Totals) -> Totals
     ensures { λ r. ⌜ r ≡ withDirectCall ledger ⌝ }
 {
-    Ledger {
+    Totals {
         done: ledger.done,
         torn: ledger.torn,
         opened: ledger.opened,
@@ -85,7 +85,7 @@ fn with_direct_call(ledger: Ledger) -> Ledger
 }
 
 // The ledger after a stored call.
-pub fn with_call(ledger: Ledger, call: &[u8]) -> Ledger
+pub fn with_call(ledger: Totals, call: &[u8]) -> Totals
     ensures { λ r. ⌜ r ≡ withCall ledger (now (call .entry)) ⌝ }
 {
     let kind = byte_at(call, 0);
@@ -99,7 +99,7 @@ pub fn with_call(ledger: Ledger, call: &[u8]) -> Ledger
 }
 
 // Whether so many points are made and listed as the insertions say.
-fn points_are_right(ledger: Ledger, counts: Counts) -> bool
+fn points_are_right(ledger: Totals, counts: Counts) -> bool
     ensures { λ r. ⌜ r ≡ pointsAreRight ledger counts ⌝ }
 {
     let done = ledger.done as u64;
@@ -110,7 +110,7 @@ fn points_are_right(ledger: Ledger, counts: Counts) -> bool
 }
 
 // Whether there are so many links, borders and openings. What is to be subtracted is added on the other side.
-fn sides_are_right(ledger: Ledger, counts: Counts, openings: u16) -> bool
+fn sides_are_right(ledger: Totals, counts: Counts, openings: u16) -> bool
     ensures { λ r. ⌜ r ≡ sidesAreRight ledger counts openings ⌝ }
 {
     let inserted = ledger.done as u64 + ledger.torn as u64;
@@ -123,7 +123,7 @@ fn sides_are_right(ledger: Ledger, counts: Counts, openings: u16) -> bool
 }
 
 // Whether the counts are what the ledger says. It says nothing where a direct call was made.
-fn ledger_is_right(ledger: Ledger, counts: Counts, openings: u16) -> bool
+fn ledger_is_right(ledger: Totals, counts: Counts, openings: u16) -> bool
     ensures { λ r. ⌜ r ≡ ledgerIsRight ledger counts openings ⌝ }
 {
     if ledger.direct {
@@ -136,7 +136,7 @@ fn ledger_is_right(ledger: Ledger, counts: Counts, openings: u16) -> bool
 }
 
 // Whether what is counted of a map is what the ledger says.
-pub fn ledger_holds(ledger: Ledger, map: Tmesh) -> bool
+pub fn ledger_holds(ledger: Totals, map: Tmesh) -> bool
     ensures { λ r. ⌜ r ≡ ledgerHolds ledger map ⌝ }
 {
     let list = openings(store_of(map.mesh));
