@@ -621,10 +621,13 @@ enum { STORED_SET_POINT_BYTES = 18 + GATEMAP_VALUE_BYTES, STORED_CELL_BYTES = 3 
  * The counts of a report by the answers of its edits, as far as it shows them: an edit without a line is done, 8 is torn. Each done or torn edit makes a point and a link,
  * opens at most two sides, and each link that it infers takes two of them away again.
  */
-static void report_counts(const char *text, size_t edits)
+static void report_counts(const char *text, size_t length, size_t edits)
 {
+    static char copy[MOST_CASE_BYTES];
     long done = (long)edits, torn = 0, openings = 0, made = 0, listed = 0, links = 0;
-    for (const char *line = text; *line != 'm' || line[1] != 'i'; line = strchr(line, '\n') + 1) {
+    memcpy(copy, text, length);
+    copy[length] = '\0';
+    for (char *line = strtok(copy, "\n"); line != NULL; line = strtok(NULL, "\n")) {
         int number = 0;
         if (sscanf(line, "edit %*d refused %d", &number) == 1) {
             done--;
@@ -635,7 +638,7 @@ static void report_counts(const char *text, size_t edits)
     }
     long inferred = links - made, opened = openings + 2 * inferred;
     check(made == 4 + done + torn && listed == 4 + done, "stored file %lu: %ld made, %ld listed with %ld done, %ld torn", files, made, listed, done, torn);
-    check(0 <= inferred && inferred <= opened && opened <= 2 * (done + torn), "stored file %lu: %ld inferred, %ld opened", files, inferred, opened);
+    check(0 <= inferred && opened <= 2 * (done + torn), "stored file %lu: %ld inferred, %ld opened", files, inferred, opened);
 }
 
 static void stored_report(const struct stored *stored)
@@ -647,7 +650,7 @@ static void stored_report(const struct stored *stored)
           "the last line of stored file %lu is not %s", files, line);
     check(prints(stored->bytes, stored->length, text, stored->text_length), "the text of stored file %lu", files);
     if (*text != 'f')
-        report_counts(text, (stored->length - EDITS_AT) / EDIT_BYTES);
+        report_counts(text, stored->text_length, (stored->length - EDITS_AT) / EDIT_BYTES);
 }
 
 /* A call on a stored file: its answer's number and what it writes are stored. */

@@ -1,5 +1,5 @@
 -- What is counted of a map: the points made, the points listed, the two-way links, and the borders.
--- A two-way link is counted once, by its side Up or Right; that each has its mirror is a theorem on lists of calls. Of borders every side of a made point is counted.
+-- A two-way link is counted once, by its side Up or Right; that each has its mirror is a theorem on lists of calls. Every border of a made point is counted.
 use Prim.Native.Nat.{ℕ, _+_}
 use mathlib.Core.Bool.{Bool, cond, _&&_}
 use Rattle.counting.specs.Counting.{countBelow}
@@ -42,6 +42,4 @@ linksAhead point = cond (isLink (sideOf point Up)) 1 0 + cond (isLink (sideOf po
 abbrev pub bordersAround : TmeshControlPoint → ℕ
 bordersAround point =
     cond (isBorder (sideOf point Up)) 1 0
-    + cond (isBorder (sideOf point Right)) 1 0
-    + cond (isBorder (sideOf point Down)) 1 0
-    + cond (isBorder (sideOf point Left)) 1 0
+    + (cond (isBorder (sideOf point Right)) 1 0 + (cond (isBorder (sideOf point Down)) 1 0 + cond (isBorder (sideOf point Left)) 1 0))

@@ -1,10 +1,10 @@
 -- Laws of counting sides point by point.
 use Prim.Native.Nat.{ℕ, _+_, _*_, _<_, _≤_}
 use mathlib.Core.Path.{_≡_, refl, ap, _∙_}
-use mathlib.Core.Bool.{Bool, true, false, cond, _&&_}
+use mathlib.Core.Bool.{Bool, cond, _&&_}
 use native.Mathlib.Omega.{arith}
 use Rattle.counting.specs.Counting.{countBelow}
-use Rattle.counting.specs.CountLaws.{one-both, count-none, count-next, count-few}
+use Rattle.counting.specs.CountLaws.{one-both, plus-where, count-none, count-next, count-few}
 use Rattle.control_point.specs.Point.{isMade, isLink, isBorder, sideOf}
 use Rattle.control_point.specs.declared.t_mesh_control_point.Side.{Side}
 use Rattle.control_point.specs.declared.t_mesh_direction.TmeshDirection.{TmeshDirection}
@@ -16,12 +16,12 @@ use Rattle.census.specs.Census.{hasSide, linksAhead, bordersAround}
 use Rattle.census.specs.declared.census.Counts.{Counts}
 
 -- 1 for a side of a point that passes a test
-abbrev one : (Side → Bool) → Store → ℕ → TmeshDirection → ℕ
-one test store n d = cond (test (sideOf (storePoint store n) d)) 1 0
+abbrev oneSide : (Side → Bool) → Store → ℕ → TmeshDirection → ℕ
+oneSide test store n d = cond (test (sideOf (storePoint store n) d)) 1 0
 
 -- one point more, read of the store's points
 side-next : (test : Side → Bool) (store : Store) (d : TmeshDirection) (n : ℕ) → n < 128
-    → countBelow (n + 1) (hasSide test store d) ≡ countBelow n (hasSide test store d) + cond (isMade (store .made) n) (one test store n d) 0
+    → countBelow (n + 1) (hasSide test store d) ≡ countBelow n (hasSide test store d) + cond (isMade (store .made) n) (oneSide test store n d) 0
 side-next test store d n h =
     count-next n (hasSide test store d)
     ∙ ap (λ (side : Side). countBelow n (hasSide test store d) + cond (isMade (store .made) n && test side) 1 0) (side-read store n d h)
@@ -37,10 +37,6 @@ links-none store = omega (arith, count-none (hasSide isLink store Up), count-non
 pub links-few : (store : Store) (n : ℕ) → linksBelow store n ≤ 2 * n
 links-few store n = omega (arith, count-few n (hasSide isLink store Up), count-few n (hasSide isLink store Right))
 
-two-apart : (b : Bool) (up right : ℕ) → cond b (up + right) 0 ≡ cond b up 0 + cond b right 0
-two-apart true up right = refl
-two-apart false up right = refl
-
 pub links-next : (store : Store) (n : ℕ) → n < 128 → (sum more : ℕ) → sum ≡ linksBelow store n
     → more ≡ cond (isMade (store .made) n) (linksAhead (storePoint store n)) 0 → sum + more ≡ linksBelow store (n + 1)
 links-next store n h sum more s m =
@@ -48,7 +44,7 @@ links-next store n h sum more s m =
       arith,
       side-next isLink store Up n h,
       side-next isLink store Right n h,
-      two-apart (isMade (store .made) n) (one isLink store n Up) (one isLink store n Right),
+      plus-where (isMade (store .made) n) (oneSide isLink store n Up) (oneSide isLink store n Right),
     )
 
 -- ---- their borders
@@ -77,10 +73,6 @@ borders-few store n =
       count-few n (hasSide isBorder store Left),
     )
 
-four-apart : (b : Bool) (up right down left : ℕ) → cond b (up + right + down + left) 0 ≡ cond b up 0 + cond b right 0 + cond b down 0 + cond b left 0
-four-apart true up right down left = refl
-four-apart false up right down left = refl
-
 pub borders-next : (store : Store) (n : ℕ) → n < 128 → (sum more : ℕ) → sum ≡ bordersBelow store n
     → more ≡ cond (isMade (store .made) n) (bordersAround (storePoint store n)) 0 → sum + more ≡ bordersBelow store (n + 1)
 borders-next store n h sum more s m =
@@ -90,13 +82,15 @@ borders-next store n h sum more s m =
       side-next isBorder store Right n h,
       side-next isBorder store Down n h,
       side-next isBorder store Left n h,
-      four-apart (isMade (store .made) n) (one isBorder store n Up) (one isBorder store n Right) (one isBorder store n Down) (one isBorder store n Left),
+      plus-where (isMade (store .made) n) (oneSide isBorder store n Up) (oneSide isBorder store n Right + (oneSide isBorder store n Down + oneSide isBorder store n Left)),
+      plus-where (isMade (store .made) n) (oneSide isBorder store n Right) (oneSide isBorder store n Down + oneSide isBorder store n Left),
+      plus-where (isMade (store .made) n) (oneSide isBorder store n Down) (oneSide isBorder store n Left),
     )
 
 -- ---- counts that are equal number by number
-abbrev counted : ℕ → ℕ → ℕ → ℕ → Counts
-counted made listed links borders = record { made = made; listed = listed; links = links; borders = borders }
+abbrev countsWith : ℕ → ℕ → ℕ → ℕ → Counts
+countsWith made listed links borders = record { made = made; listed = listed; links = links; borders = borders }
 
 pub same-counts : {made listed links borders made′ listed′ links′ borders′ : ℕ} → made ≡ made′ → listed ≡ listed′ → links ≡ links′ → borders ≡ borders′
-    → counted made listed links borders ≡ counted made′ listed′ links′ borders′
+    → countsWith made listed links borders ≡ countsWith made′ listed′ links′ borders′
 same-counts m l k b = rw (m, l, k, b) refl

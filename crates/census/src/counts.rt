@@ -46,7 +46,7 @@ fn count_listed(listed: [bool; 128]) -> u8
     sum
 }
 
-// 1 where a point has a link in a direction, and where it has a border there; else 0.
+// 1 where a point has a link in a direction, else 0.
 fn one_link(point: TmeshControlPoint, direction: TmeshDirection) -> u8
     ensures value { λ r. ⌜ r ≡ cond (isLink (sideOf point direction)) 1 0 ⌝ }
     ensures bound { λ r. ⌜ r ≤ 1 ⌝ }
@@ -54,6 +54,7 @@ fn one_link(point: TmeshControlPoint, direction: TmeshDirection) -> u8
     one_if(is_link(side_of(point, direction)))
 }
 
+// 1 where it has a border there, else 0.
 fn one_border(point: TmeshControlPoint, direction: TmeshDirection) -> u8
     ensures value { λ r. ⌜ r ≡ cond (isBorder (sideOf point direction)) 1 0 ⌝ }
     ensures bound { λ r. ⌜ r ≤ 1 ⌝ }

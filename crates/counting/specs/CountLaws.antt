@@ -13,6 +13,11 @@ pub one-both : (a b : Bool) → cond {A = ℕ} (a && b) 1 0 ≡ cond a (cond b 1
 one-both true b = refl
 one-both false b = refl
 
+-- a sum that counts where a test holds, term by term
+pub plus-where : (b : Bool) (x y : ℕ) → cond b (x + y) 0 ≡ cond b x 0 + cond b y 0
+plus-where true x y = refl
+plus-where false x y = refl
+
 -- ---- number by number
 pub count-none : (test : ℕ → Bool) → countBelow 0 test ≡ 0
 unfolding countBelow

@@ -19,7 +19,7 @@ use Rattle.census.specs.Census.{countsOf}
 use Rattle.calls.specs.FullStroke.{InUnit}
 use Rattle.soundness.specs.Theorems.{OneOf}
 use Rattle.ledger.specs.Ledger.{countsBy, openingsBy}
-use Rattle.ledger.specs.Theorem.{Ledger}
+use Rattle.ledger.specs.Theorem.{HasLedger}
 use Rattle.map_format.specs.Format.{borderAt, editsAt, editCount, Edit, editsFrom, checkedFile}
 use Rattle.map_file.specs.Run.{cornerOf, freshMap, edited, fileMap, fileNumbers}
 use Rattle.map_format.specs.declared.format.FileCheck.the-variants.{Valid, Refused}
@@ -113,8 +113,8 @@ FileCellSays =
 -- ---- THE LEDGER OF SIDES, for files
 -- what each edit answers, on the map as the one before it left it
 unfoldable pub editAnswers : Float → Tmesh → List Edit → List InsertAnswer
-editAnswers e map [] = []
-editAnswers e map (edit ∷ rest) = edited e map edit .answer ∷ editAnswers e (edited e map edit .map) rest
+editAnswers e before [] = []
+editAnswers e before (edit ∷ rest) = edited e before edit .answer ∷ editAnswers e (edited e before edit .map) rest
 
 abbrev pub fileAnswers : Float → List ℕ → ℕ → List InsertAnswer
 fileAnswers e file count = editAnswers e (freshMap file) (editsFrom count file editsAt)
@@ -122,7 +122,7 @@ fileAnswers e file count = editAnswers e (freshMap file) (editsFrom count file e
 -- The map that the edits of a file leave has the points, links, borders and openings that the answers of the edits give, and each link has its mirror, with
 -- the same interval bits.
 abbrev pub FileLedger : Type 0
-FileLedger = (e : Float) (file : List ℕ) (count : ℕ) → Ledger (fileMap e file count) (fileAnswers e file count)
+FileLedger = (e : Float) (file : List ℕ) (count : ℕ) → HasLedger (fileMap e file count) (fileAnswers e file count)
 
 -- What the program prints of a valid file is, but for which sides are open and for the line `mid`, what the answers of its edits give: a line for each that is refused
 -- or torn, the counts, and as many lines of openings.

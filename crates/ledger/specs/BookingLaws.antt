@@ -23,8 +23,7 @@ use Rattle.mirror.specs.Mirror.{Sound}
 use Rattle.mirror.specs.MirrorLaws.{done-joining, sound-side}
 use Rattle.insertion.specs.Insert.{cut, pointInLine, parted, placed, withNewSide, isTorn, openedCount, inferredCount, countedAnswer, firstSide, withFirst, secondSide, sided, insertPoint}
 use Rattle.insertion.specs.InsertLaws.{MayJoin, joined-linked, first-joins, second-joins}
-use Rattle.insertion.specs.declared.insertion.InsertAnswer.{InsertAnswer}
-use Rattle.insertion.specs.declared.insertion.InsertAnswer.the-variants.{Done, Torn, Refused}
+use Rattle.insertion.specs.declared.insertion.InsertAnswer.the-variants.{Refused}
 use Rattle.insertion.specs.declared.insertion.Inserted.{Inserted}
 use Rattle.insertion.specs.declared.insertion.NewSide.{NewSide}
 use Rattle.insertion.specs.declared.insertion.NewSide.the-variants.{Takes, Joins, Opens, Tears, Stays}
@@ -34,7 +33,7 @@ use Rattle.soundness.specs.KnownLaws.{Known}
 use Rattle.soundness.specs.PlacingLaws.{Across, across-clockwise, across-anti, Placed, cut-sound, stood-sound, nearInterval, farInterval, nearLinked, far-joined, near-joining, near-sound, far-joining, placed-sound}
 use Rattle.ledger.specs.Ledger.{madeBy, openedBy, inferredBy}
 use Rattle.ledger.specs.PriceLaws.{Price, around}
-use Rattle.ledger.specs.ChangeLaws.{worthOf, Prices, worth-side, worth-new, worth-cut, worth-linked}
+use Rattle.ledger.specs.ChangeLaws.{worthOf, Prices, has-room, worth-side, worth-new, worth-cut, worth-linked}
 
 module _ (price : Price) (link border opening : ℕ) (prices : Prices price link border opening) where
   -- ---- a point placed in a link
@@ -46,7 +45,7 @@ module _ (price : Price) (link border opening : ℕ) (prices : Prices price link
 
   module _ (store : Store) (sound : Sound store) (con other : ℕ) (d : TmeshDirection) (interval : Float) (con-made : con < store .made)
       (is : storeSides store con d ≡ Link other interval) (roomy : store .made < 128) (ratio : Float) where
-    pub worth-placed : worthOf price (placed store con other d interval ratio) ≡ worthOf price store + (link + (border + border))
+    worth-placed : worthOf price (placed store con other d interval ratio) ≡ worthOf price store + (link + (border + border))
     unfolding placed
     worth-placed =
         let near = nearLinked store sound con other d interval con-made is roomy ratio in
@@ -57,15 +56,15 @@ module _ (price : Price) (link border opening : ℕ) (prices : Prices price link
           worth-new (cut store con other d) (cut-sound store sound con other d interval con-made is roomy) price (pointInLine d) roomy,
           line-worth d,
           worth-linked (parted store con other d) (stood-sound store sound con other d interval con-made is roomy) price link border opening prices
-              con (store .made) d (nearInterval store sound con other d interval con-made is roomy ratio) (near-joining store sound con other d interval con-made is roomy ratio),
+              con (store .made) d (nearInterval interval ratio) (near-joining store sound con other d interval con-made is roomy ratio),
           worth-linked near (near-sound store sound con other d interval con-made is roomy ratio) price link border opening prices
-              (store .made) other d (farInterval store sound con other d interval con-made is roomy ratio) (far-joining store sound con other d interval con-made is roomy ratio),
+              (store .made) other d (farInterval interval ratio) (far-joining store sound con other d interval con-made is roomy ratio),
         )
 
   -- ---- a side of p across, which is a border
   -- after it, with so many sides opened and links inferred
-  abbrev Moved : Store → ℕ → ℕ → Store → Type 0
-  Moved store opened inferred after =
+  abbrev SidesMoved : Store → ℕ → ℕ → Store → Type 0
+  SidesMoved store opened inferred after =
       worthOf price after + (opened * border + inferred * (opening + opening)) ≡ worthOf price store + (opened * opening + inferred * link)
 
   module _ (store : Store) (sound : Sound store) (p : ℕ) (f : TmeshDirection) (p-made : p < store .made) (weight : Float)
@@ -79,15 +78,12 @@ module _ (price : Price) (link border opening : ℕ) (prices : Prices price link
     opened-sound : Sound opened
     opened-sound = sound-side store sound p f Opening p-made (ap isLink is) refl
 
-    p-room : p < 128
-    p-room = let fits = sound .fits in omega arith
-
     worth-new-side : (new : NewSide) → MayJoin (storeSides store) (store .made) p f new
-        → Moved store (openedCount new) (inferredCount new) (withNewSide store p f new)
+        → SidesMoved store (openedCount new) (inferredCount new) (withNewSide store p f new)
     worth-new-side (Takes taken) joins = omega (arith, moved-side (Border taken), prices .borders f taken)
     worth-new-side (Joins n interval) joins =
-        let joined = ap (λ (changed : Changed). worthOf price (changed .store)) (joined-linked store (sound .room) p p-room f n interval joins) in
-        let may = ap (λ (sides : Sides). connectable sides (store .made) p n f) (sides-side store (sound .room) p p-room f Opening) ∙ joins in
+        let joined = ap (λ (changed : Changed). worthOf price (changed .store)) (joined-linked store (sound .room) p (has-room store sound price p p-made) f n interval joins) in
+        let may = ap (λ (sides : Sides). connectable sides (store .made) p n f) (sides-side store (sound .room) p (has-room store sound price p p-made) f Opening) ∙ joins in
         omega (
           arith,
           moved-side Opening,
@@ -101,29 +97,26 @@ module _ (price : Price) (link border opening : ℕ) (prices : Prices price link
   -- ---- both sides
   module _ (e : Float) (store : Store) (con p : ℕ) (d : TmeshDirection) (sound : Sound store) (p-made : p < store .made) (weight : Float)
       (across : (f : TmeshDirection) → Across d f → storeSides store p f ≡ Border weight) where
-    room-p : p < 128
-    room-p = let fits = sound .fits in omega arith
-
     abbrev half : Store
     half = withFirst e store con p d
 
     half-sided : Sided store p (clockwiseOf d) half
     half-sided = first-sided e store con p d sound p-made (λ f a. ap isLink (across f a))
 
-    worth-first : Moved store (openedCount (firstSide e store con p d)) (inferredCount (firstSide e store con p d)) half
+    worth-first : SidesMoved store (openedCount (firstSide e store con p d)) (inferredCount (firstSide e store con p d)) half
     unfolding withFirst
     worth-first =
         worth-new-side store sound p (clockwiseOf d) p-made weight (across (clockwiseOf d) (across-clockwise d)) (firstSide e store con p d)
-        (first-joins e store (sound .room) con p room-p d)
+        (first-joins e store (sound .room) con p (has-room store sound price p p-made) d)
 
-    worth-second : Moved half (openedCount (secondSide e store con p d)) (inferredCount (secondSide e store con p d)) (sided e store con p d .store)
+    worth-second : SidesMoved half (openedCount (secondSide e store con p d)) (inferredCount (secondSide e store con p d)) (sided e store con p d .store)
     unfolding sided
     worth-second =
         worth-new-side half (half-sided .sound) p (antiClockwiseOf d) (rw (half-sided .made-is) p-made) weight
         (half-sided .turned (antiClockwiseOf d) (anti-turned d) ∙ across (antiClockwiseOf d) (across-anti d)) (secondSide e store con p d)
-        (second-joins e store (sound .room) con p room-p d)
+        (second-joins e store (sound .room) con p (has-room store sound price p p-made) d)
 
-    pub worth-sided : Moved store (openedCount (firstSide e store con p d) + openedCount (secondSide e store con p d))
+    worth-sided : SidesMoved store (openedCount (firstSide e store con p d) + openedCount (secondSide e store con p d))
         (inferredCount (firstSide e store con p d) + inferredCount (secondSide e store con p d)) (sided e store con p d .store)
     worth-sided = omega (arith, worth-first, worth-second)
 
@@ -136,7 +129,7 @@ Booked store made opened inferred after =
     ≡ worthOf price store + (made * (link + (border + border)) + (opened * opening + inferred * link))
 
 -- the answer books what it says
-abbrev pub Books : Store → Inserted → Type 0
+abbrev Books : Store → Inserted → Type 0
 Books store result = Booked store (madeBy (result .answer)) (openedBy (result .answer)) (inferredBy (result .answer)) (result .store)
 
 -- torn or done, it is the same

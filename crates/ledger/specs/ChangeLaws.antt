@@ -1,5 +1,5 @@
--- What the sides of a sound store come to after a change: of one side, of a point more, of a link cut and of two points linked. A price is the same
--- for every border, for every opening, and for the two sides of a link together.
+-- What the sides of a sound store come to after a change: of one side, of a point more, of a link cut and of two points linked. For the last two the price must be the same
+-- for every border, for every opening, and for the two sides of a link together (`Prices`).
 use Prim.Native.Nat.{ℕ, _+_, _<_}
 use mathlib.Core.Path.{_≡_, sym, ap, _∙_, subst}
 use mathlib.Core.Bool.{true}
@@ -44,7 +44,7 @@ module _ (store : Store) (sound : Sound store) (price : Price) where
   is-made : (n : ℕ) → n < store .made → isMade (store .made) n ≡ true
   is-made n h = made-isMade (store .made) n (sound .fits) h
 
-  has-room : (n : ℕ) → n < store .made → n < 128
+  pub has-room : (n : ℕ) → n < store .made → n < 128
   has-room n h = let fits = sound .fits in omega arith
 
   pub worth-side : (n : ℕ) (d : TmeshDirection) (side : Side) → n < store .made

@@ -1,12 +1,12 @@
 -- What `counts` and `openings` count are sums of sides at a price: 1 for each side that passes a test, in all four directions or in two.
 use Prim.Native.Nat.{ℕ, zero, suc, _+_}
 use mathlib.Core.Path.{_≡_, refl, ap, _∙_}
-use mathlib.Core.Bool.{Bool, true, false, cond, _&&_}
-use mathlib.Core.List.{List, [], _∷_, _++_}
+use mathlib.Core.Bool.{Bool, true, false, cond}
+use mathlib.Core.List.{List, [], _∷_}
 use native.Mathlib.Omega.{arith}
 use lib.ListN.{length, length-append}
-use Rattle.counting.specs.Counting.{countBelow, sumBelow}
-use Rattle.counting.specs.CountLaws.{one-both}
+use Rattle.counting.specs.Counting.{sumBelow}
+use Rattle.counting.specs.CountLaws.{one-both, plus-where}
 use Rattle.counting.specs.SumLaws.{sum-same, sum-nothing, sum-both, count-is-sum}
 use Rattle.control_point.specs.Point.{isMade, isOpening}
 use Rattle.control_point.specs.declared.t_mesh_control_point.Side.{Side}
@@ -17,7 +17,7 @@ use Rattle.store.specs.declared.store.Store.{Store}
 use Rattle.census.specs.Census.{hasSide, sidesTowards, sidesThat}
 use Rattle.openings.specs.Openings.{PointSide, pointSide, fourSides, sidesBelow, isOpen, openAmong, openingsOf}
 use Rattle.openings.specs.OpeningsLaws.{open-append}
-use Rattle.ledger.specs.PriceLaws.{Price, around, worthAt, worth}
+use Rattle.ledger.specs.PriceLaws.{Price, worthAt, worth}
 use Rattle.ledger.specs.ChangeLaws.{worthOf}
 
 -- 1 for a side that passes a test; and only if it is Up or Right
@@ -32,26 +32,31 @@ ahead test Left side = 0
 
 -- ---- direction by direction
 module _ (price : Price) (store : Store) where
-  abbrev at : TmeshDirection → ℕ → ℕ
-  at d n = cond (isMade (store .made) n) (price d (storeSides store n d)) 0
+  abbrev worthTowards : TmeshDirection → ℕ → ℕ
+  worthTowards d n = cond (isMade (store .made) n) (price d (storeSides store n d)) 0
 
   abbrev inDirection : TmeshDirection → ℕ
-  inDirection d = sumBelow 128 (at d)
+  inDirection d = sumBelow 128 (worthTowards d)
 
-  apart : (b : Bool) (u r d l : ℕ) → cond b (u + (r + (d + l))) 0 ≡ cond b u 0 + (cond b r 0 + (cond b d 0 + cond b l 0))
-  apart true u r d l = refl
-  apart false u r d l = refl
+  at-point : (n : ℕ)
+      → worthAt price (storeSides store) (store .made) n ≡ worthTowards Up n + (worthTowards Right n + (worthTowards Down n + worthTowards Left n))
+  at-point n =
+      let made = isMade (store .made) n in
+      let up = price Up (storeSides store n Up) in
+      let right = price Right (storeSides store n Right) in
+      let down = price Down (storeSides store n Down) in
+      let left = price Left (storeSides store n Left) in
+      omega (arith, plus-where made up (right + (down + left)), plus-where made right (down + left), plus-where made down left)
 
   by-direction : worthOf price store ≡ inDirection Up + (inDirection Right + (inDirection Down + inDirection Left))
   unfolding worth
   by-direction =
-      sum-same 128 (worthAt price (storeSides store) (store .made)) (λ n. at Up n + (at Right n + (at Down n + at Left n)))
-      (λ n below. apart (isMade (store .made) n) (price Up (storeSides store n Up)) (price Right (storeSides store n Right)) (price Down (storeSides store n Down)) (price Left (storeSides store n Left)))
-      ∙ omega (
+      omega (
         arith,
-        sum-both 128 (at Up) (λ n. at Right n + (at Down n + at Left n)),
-        sum-both 128 (at Right) (λ n. at Down n + at Left n),
-        sum-both 128 (at Down) (at Left),
+        sum-same 128 (worthAt price (storeSides store) (store .made)) (λ n. worthTowards Up n + (worthTowards Right n + (worthTowards Down n + worthTowards Left n))) (λ n below. at-point n),
+        sum-both 128 (worthTowards Up) (λ n. worthTowards Right n + (worthTowards Down n + worthTowards Left n)),
+        sum-both 128 (worthTowards Right) (λ n. worthTowards Down n + worthTowards Left n),
+        sum-both 128 (worthTowards Down) (worthTowards Left),
       )
 
 -- ---- the sides that pass a test
@@ -89,8 +94,11 @@ module _ (store : Store) where
   unfolding openAmong
   open-none = refl
 
-  open-four : (n : ℕ) → length (openAmong store (fourSides n)) ≡ worthAt (passing isOpening) (storeSides store) (store .made) n
+  one-open-is : (n : ℕ) (d : TmeshDirection) → one-open (pointSide n d) ≡ cond (isMade (store .made) n) (passing isOpening d (storeSides store n d)) 0
   unfolding one-open
+  one-open-is n d = one-both (isMade (store .made) n) (isOpening (storeSides store n d))
+
+  open-four : (n : ℕ) → length (openAmong store (fourSides n)) ≡ worthAt (passing isOpening) (storeSides store) (store .made) n
   open-four n =
       let left = pointSide n Left ∷ [] in
       let down = pointSide n Down ∷ left in
@@ -102,14 +110,12 @@ module _ (store : Store) where
         open-length (pointSide n Down) left,
         open-length (pointSide n Left) [],
         open-none,
-        by-made (isMade (store .made) n) (isOpening (storeSides store n Up)) (isOpening (storeSides store n Right)) (isOpening (storeSides store n Down)) (isOpening (storeSides store n Left)),
+        one-open-is n Up,
+        one-open-is n Right,
+        one-open-is n Down,
+        one-open-is n Left,
+        at-point (passing isOpening) store n,
       )
-    where
-      by-made : (b u r d l : Bool)
-          → cond {A = ℕ} (b && u) 1 0 + (cond (b && r) 1 0 + (cond (b && d) 1 0 + cond (b && l) 1 0))
-          ≡ cond b (cond u 1 0 + (cond r 1 0 + (cond d 1 0 + cond l 1 0))) 0
-      by-made true u r d l = refl
-      by-made false u r d l = refl
 
   open-below : (n : ℕ) → length (openAmong store (sidesBelow n)) ≡ sumBelow n (worthAt (passing isOpening) (storeSides store) (store .made))
   unfolding sidesBelow sumBelow

@@ -28,32 +28,36 @@ inferredBy (Done opened inferred) = inferred
 inferredBy (Torn opened inferred) = inferred
 inferredBy (Refused refusal) = 0
 
--- ---- summed over all answers: document 02's C, O and I, and the insertions done
+-- ---- summed over all answers
 unfoldable pub total : (InsertAnswer → ℕ) → List InsertAnswer → ℕ
 total number [] = 0
 total number (answer ∷ rest) = number answer + total number rest
 
-abbrev pub pointsAdded : List InsertAnswer → ℕ
-pointsAdded = total madeBy
+-- document 02's C, the insertions done or torn
+abbrev pub doneOrTorn : List InsertAnswer → ℕ
+doneOrTorn = total madeBy
 
-abbrev pub pointsListed : List InsertAnswer → ℕ
-pointsListed = total listedBy
-
+-- its O, the sides that they opened
 abbrev pub sidesOpened : List InsertAnswer → ℕ
 sidesOpened = total openedBy
 
+-- its I, the links that they inferred
 abbrev pub linksInferred : List InsertAnswer → ℕ
 linksInferred = total inferredBy
+
+-- the insertions done
+abbrev pub insertionsDone : List InsertAnswer → ℕ
+insertionsDone = total listedBy
 
 -- ---- the map that they leave of a fresh one
 -- what `counts` answers of it
 abbrev pub countsBy : List InsertAnswer → Counts
 countsBy answers =
     record {
-      made = 4 + pointsAdded answers;
-      listed = 4 + pointsListed answers;
-      links = 4 + pointsAdded answers + linksInferred answers;
-      borders = 8 + 2 * pointsAdded answers - sidesOpened answers;
+      made = 4 + doneOrTorn answers;
+      listed = 4 + insertionsDone answers;
+      links = 4 + doneOrTorn answers + linksInferred answers;
+      borders = 8 + 2 * doneOrTorn answers - sidesOpened answers;
     }
 
 -- how many openings it has

@@ -9,7 +9,7 @@ use lib.Dec.{ltb}
 use Rattle.counting.specs.Counting.{sumBelow}
 use Rattle.counting.specs.SumLaws.{sum-but}
 use Rattle.control_point.specs.Point.{sideOf, isMade}
-use Rattle.control_point.specs.PointLaws.{isMade-room}
+use Rattle.control_point.specs.PointLaws.{isMade-room, made-isMade}
 use Rattle.control_point.specs.Sides.{Sides, sidesWith, sidesWithPoint}
 use Rattle.control_point.specs.declared.t_mesh_control_point.Side.{Side}
 use Rattle.control_point.specs.declared.t_mesh_control_point.TmeshControlPoint.{TmeshControlPoint}
@@ -68,8 +68,7 @@ module _ (price : Price) (sides : Sides) (made : ℕ) where
         by-test false h = rw (le-ltb m (made + 1) (let k = ltb-false m made h in omega arith))
 
     made-last : isMade (made + 1) made ≡ true
-    unfolding isMade
-    made-last = rw (lt-ltb made (made + 1) (omega arith), lt-ltb made 128 roomy)
+    made-last = made-isMade (made + 1) made (omega arith) (omega arith)
 
     made-not : isMade made made ≡ false
     unfolding isMade

@@ -3,21 +3,22 @@
 -- 10 links, 11 borders and 1 opening. 6 points are listed.
 use mathlib.Core.List.{List, [], _∷_}
 use mathlib.Core.Path.{_≡_}
-use Rattle.float64.specs.Literals.{zeroLiteral, oneLiteral}
+use Rattle.float64.specs.Literals.{zeroLiteral}
 use Rattle.control_point.specs.Small.{millionth}
 use Rattle.control_point.specs.declared.refusal.Refusal.the-variants.{BorderSide}
 use Rattle.control_point.specs.declared.t_mesh_direction.TmeshDirection.the-variants.{Up, Right, Left}
 use Rattle.insertion.specs.declared.insertion.InsertAnswer.{InsertAnswer}
 use Rattle.insertion.specs.declared.insertion.InsertAnswer.the-variants.{Done, Torn, Refused}
-use Rattle.t_mesh.specs.Tmesh.{storeOf, newTmesh}
+use Rattle.t_mesh.specs.Tmesh.{storeOf}
 use Rattle.t_mesh.specs.declared.t_mesh.Position.{Position}
 use Rattle.t_mesh.specs.declared.t_mesh.Tmesh.{Tmesh}
 use Rattle.census.specs.Census.{countsOf}
 use Rattle.openings.specs.Openings.{openingsOf, openingsAnswer}
 use Rattle.calls.specs.Calls.{Call, insertion, runOf}
 use Rattle.calls.specs.ExampleValues.{half}
+use Rattle.calls.specs.Readings.{plate}
 use Rattle.soundness.specs.MapCalls.{mapAfterAll, entries}
-use Rattle.ledger.specs.Ledger.{pointsAdded, sidesOpened, linksInferred}
+use Rattle.ledger.specs.Ledger.{doneOrTorn, sidesOpened, linksInferred}
 use Rattle.ledger.specs.Theorem.{insertionAnswers}
 
 -- what they answer
@@ -25,8 +26,8 @@ abbrev pub answers : List InsertAnswer
 answers = Done 1 0 ∷ (Done 1 1 ∷ (Refused BorderSide ∷ (Torn 1 0 ∷ (Torn 2 1 ∷ []))))
 
 module _ (bottomLeft bottomRight topRight topLeft position : Position) where
-  abbrev pub plate : Tmesh
-  plate = newTmesh oneLiteral bottomLeft bottomRight topRight topLeft
+  abbrev pub fresh : Tmesh
+  fresh = plate bottomLeft bottomRight topRight topLeft position
 
   abbrev pub edits : List Call
   edits =
@@ -36,18 +37,18 @@ module _ (bottomLeft bottomRight topRight topLeft position : Position) where
       ∷ (insertion 0 Right zeroLiteral position
       ∷ (insertion 4 Right zeroLiteral position ∷ []))))
 
-  abbrev pub left : Tmesh
-  left = mapAfterAll millionth plate (entries edits)
+  abbrev pub after : Tmesh
+  after = mapAfterAll millionth fresh (entries edits)
 
   pub record LedgerReading : Type 0 where
-    pub answered : insertionAnswers (runOf millionth plate edits) ≡ answers
-    pub counts : countsOf left ≡ record { made = 8; listed = 6; links = 10; borders = 11 }
-    pub openings : openingsAnswer (openingsOf (storeOf left)) .count ≡ 1
+    pub answered : insertionAnswers (runOf millionth fresh edits) ≡ answers
+    pub counts : countsOf after ≡ record { made = 8; listed = 6; links = 10; borders = 11 }
+    pub openings : openingsAnswer (openingsOf (storeOf after)) .count ≡ 1
 
 -- C, O and I of these answers, and the reading for all corners and positions
 abbrev pub EveryLedgerReading : Type 0
 EveryLedgerReading =
-    (pointsAdded answers ≡ 4)
+    (doneOrTorn answers ≡ 4)
     × ((sidesOpened answers ≡ 5)
     × ((linksInferred answers ≡ 2)
     × ((bottomLeft bottomRight topRight topLeft position : Position) → LedgerReading bottomLeft bottomRight topRight topLeft position)))

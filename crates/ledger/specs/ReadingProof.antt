@@ -1,5 +1,5 @@
--- The reading holds by computing: the answers, the counts and the openings, each from the mesh.
-use mathlib.Core.Path.{_≡_, refl}
+-- The reading holds by computing: the answers from the run of the edits, the counts and the openings from the mesh that it leaves.
+use mathlib.Core.Path.{refl}
 use lib.Ieee.{ofBits, ofFields, add, sub, mul, div, sum, round, units, odd, size, span, climb, neg, le, lt, eq}
 use Rattle.counting.specs.Counting.{countBelow}
 use Rattle.control_point.specs.Connect.{connectable}

@@ -4,11 +4,12 @@ use mathlib.Core.Path.{_≡_, refl}
 use mathlib.Core.Bool.{Bool, true, false, cond}
 use native.Mathlib.Numerals.{add-one}
 use native.Mathlib.Omega.{arith}
-use borrow.Author.Tests.{ltb-true, ltb-false, lt-ltb, le-ltb}
+use borrow.Author.Tests.{ltb-true, ltb-false, le-ltb}
 use lib.Dec.{ltb}
 use Rattle.counting.specs.Counting.{sumBelow}
 use Rattle.counting.specs.SumLaws.{sum-same, sum-both}
 use Rattle.control_point.specs.Point.{isMade, isLink, isBorder, isOpening}
+use Rattle.control_point.specs.PointLaws.{made-isMade}
 use Rattle.control_point.specs.declared.t_mesh_control_point.Side.{Side}
 use Rattle.control_point.specs.declared.t_mesh_control_point.Side.the-variants.{Link, Border, Opening}
 use Rattle.control_point.specs.declared.t_mesh_direction.TmeshDirection.the-variants.{Up, Right, Down, Left}
@@ -28,32 +29,31 @@ use Rattle.ledger.specs.Theorem.{SidesAddUp}
 
 -- ---- four for each point
 module _ (made : ℕ) (fits : made ≤ 128) where
-  abbrev four : ℕ → ℕ
-  four n = cond (isMade made n) 4 0
+  abbrev sidesAt : ℕ → ℕ
+  sidesAt n = cond (isMade made n) 4 0
 
-  is : (n : ℕ) → n < made → four n ≡ 4
-  unfolding isMade
-  is n h = rw (lt-ltb n made h, lt-ltb n 128 (omega arith))
+  of-made : (n : ℕ) → n < made → sidesAt n ≡ 4
+  of-made n h = rw (made-isMade made n fits h)
 
-  is-not : (n : ℕ) → made ≤ n → four n ≡ 0
+  of-unmade : (n : ℕ) → made ≤ n → sidesAt n ≡ 0
   unfolding isMade
-  is-not n h = rw (le-ltb n made h)
+  of-unmade n h = rw (le-ltb n made h)
 
   -- below the count each has four, and from there on none
-  summed : (n : ℕ) → (n ≤ made → sumBelow n four ≡ 4 * n) × (made ≤ n → sumBelow n four ≡ 4 * made)
+  summed : (n : ℕ) → (n ≤ made → sumBelow n sidesAt ≡ 4 * n) × (made ≤ n → sumBelow n sidesAt ≡ 4 * made)
   unfolding sumBelow
   summed zero = ((λ h. refl), (λ h. omega (arith, h)))
   summed (suc n) = (
-    (λ h. omega (arith, add-one n, summed n .0 (omega (arith, add-one n, h)), is n (omega (arith, add-one n, h)))),
+    (λ h. omega (arith, add-one n, summed n .0 (omega (arith, add-one n, h)), of-made n (omega (arith, add-one n, h)))),
     (λ h. by-test (summed n) h (ltb n made) refl),
   )
     where
-      by-test : (n ≤ made → sumBelow n four ≡ 4 * n) × (made ≤ n → sumBelow n four ≡ 4 * made) → made ≤ suc n → (b : Bool) → ltb n made ≡ b
-          → sumBelow n four + four n ≡ 4 * made
-      by-test below h true l = let here = ltb-true n made l in omega (arith, add-one n, h, below .0 (omega arith), is n here)
-      by-test below h false l = let past = ltb-false n made l in omega (arith, below .1 past, is-not n past)
+      by-test : (n ≤ made → sumBelow n sidesAt ≡ 4 * n) × (made ≤ n → sumBelow n sidesAt ≡ 4 * made) → made ≤ suc n → (b : Bool) → ltb n made ≡ b
+          → sumBelow n sidesAt + sidesAt n ≡ 4 * made
+      by-test below h true l = let here = ltb-true n made l in omega (arith, add-one n, h, below .0 (omega arith), of-made n here)
+      by-test below h false l = let past = ltb-false n made l in omega (arith, below .1 past, of-unmade n past)
 
-  four-each : sumBelow 128 four ≡ 4 * made
+  four-each : sumBelow 128 sidesAt ≡ 4 * made
   four-each = summed 128 .1 fits
 
 -- ---- each is one of three
@@ -63,11 +63,11 @@ one-of-three (Border weight) = refl
 one-of-three Opening = refl
 
 module _ (store : Store) where
-  abbrev at : (Side → Bool) → ℕ → ℕ
-  at test = worthAt (passing test) (storeSides store) (store .made)
+  abbrev passingAt : (Side → Bool) → ℕ → ℕ
+  passingAt test = worthAt (passing test) (storeSides store) (store .made)
 
-  three : (n : ℕ) → at isLink n + (at isBorder n + at isOpening n) ≡ cond (isMade (store .made) n) 4 0
-  three n = by-made (isMade (store .made) n)
+  each-side : (n : ℕ) → passingAt isLink n + (passingAt isBorder n + passingAt isOpening n) ≡ cond (isMade (store .made) n) 4 0
+  each-side n = by-made (isMade (store .made) n)
     where
       by-made : (b : Bool)
           → cond b (around (passing isLink) (storeSides store n)) 0 + (cond b (around (passing isBorder) (storeSides store n)) 0 + cond b (around (passing isOpening) (storeSides store n)) 0)
@@ -87,9 +87,9 @@ module _ (store : Store) where
   all-sides fits =
       omega (
         arith,
-        sum-both 128 (at isLink) (λ n. at isBorder n + at isOpening n),
-        sum-both 128 (at isBorder) (at isOpening),
-        sum-same 128 (λ n. at isLink n + (at isBorder n + at isOpening n)) (λ n. cond (isMade (store .made) n) 4 0) (λ n below. three n),
+        sum-both 128 (passingAt isLink) (λ n. passingAt isBorder n + passingAt isOpening n),
+        sum-both 128 (passingAt isBorder) (passingAt isOpening),
+        sum-same 128 (λ n. passingAt isLink n + (passingAt isBorder n + passingAt isOpening n)) (λ n. cond (isMade (store .made) n) 4 0) (λ n below. each-side n),
         four-each (store .made) fits,
       )
 

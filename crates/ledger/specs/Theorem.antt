@@ -26,7 +26,7 @@ use Rattle.openings.specs.Openings.{openingsOf, openingsAnswer}
 use Rattle.calls.specs.Calls.{Call, Answer, inserted, evaluated, questioned, Event, runOf}
 use Rattle.soundness.specs.MapCalls.{mapAfterAll, entries}
 use Rattle.soundness.specs.Theorems.{EveryMap}
-use Rattle.ledger.specs.Ledger.{pointsAdded, sidesOpened, linksInferred, countsBy, openingsBy}
+use Rattle.ledger.specs.Ledger.{doneOrTorn, sidesOpened, linksInferred, countsBy, openingsBy}
 
 -- an answer before others, if it is an insertion's
 abbrev pub answerBefore : Answer → List InsertAnswer → List InsertAnswer
@@ -39,11 +39,15 @@ unfoldable pub insertionAnswers : List Event → List InsertAnswer
 insertionAnswers [] = []
 insertionAnswers (event ∷ rest) = answerBefore (event .answer) (insertionAnswers rest)
 
--- a map, and what the insertions answered that made it from a fresh one: the points made and listed, the two-way links and the borders; the openings; both differences whole; the mirrors
-pub record Ledger (map : Tmesh) (answers : List InsertAnswer) : Type 0 where
+-- what is said of a map and of the answers of the insertions that made it from a fresh one:
+-- the points made and listed, the two-way links and the borders;
+-- the openings;
+-- that both differences are whole;
+-- and that each link has its mirror (`Mirrored` of crates/mirror, written out so that the interval is seen)
+pub record HasLedger (map : Tmesh) (answers : List InsertAnswer) : Type 0 where
   pub counts : countsOf map ≡ countsBy answers
   pub openings : openingsAnswer (openingsOf (storeOf map)) .count ≡ openingsBy answers
-  pub borders-whole : sidesOpened answers ≤ 8 + 2 * pointsAdded answers
+  pub borders-whole : sidesOpened answers ≤ 8 + 2 * doneOrTorn answers
   pub openings-whole : 2 * linksInferred answers ≤ sidesOpened answers
   pub mirrored : (n : ℕ) (d : TmeshDirection) (m : ℕ) (interval : Float) → n < storeOf map .made → storeSides (storeOf map) n d ≡ Link m interval
       → MirrorOf (storeOf map .made) (storeSides (storeOf map)) n d m interval
@@ -52,7 +56,7 @@ abbrev pub LedgerOfSides : Type 0
 LedgerOfSides =
     (e weight : Float) (bottomLeft bottomRight topRight topLeft : Position) (calls : List Call)
     → let fresh = newTmesh weight bottomLeft bottomRight topRight topLeft in
-    Ledger (mapAfterAll e fresh (entries calls)) (insertionAnswers (runOf e fresh calls))
+    HasLedger (mapAfterAll e fresh (entries calls)) (insertionAnswers (runOf e fresh calls))
 
 -- ---- with direct calls too
 -- Direct calls change sides by themselves, so that no ledger of insertions holds of a list with them. What holds after every list of calls (`MapCall`), direct ones among them, is that

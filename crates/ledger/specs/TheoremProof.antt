@@ -1,7 +1,7 @@
 -- The ledger holds because a fresh map has four links and eight borders, and each call moves what its sides come to by what its answer says.
-use Prim.Native.Nat.{ℕ, _+_, _*_, _<_}
+use Prim.Native.Nat.{ℕ, _+_, _*_}
 use mathlib.Core.Path.{_≡_, refl, sym, ap, _∙_, subst}
-use mathlib.Core.Bool.{Bool, true, false, cond, _&&_, _||_}
+use mathlib.Core.Bool.{false, _&&_, _||_}
 use mathlib.Core.List.{List, [], _∷_}
 use native.Mathlib.Omega.{arith}
 use lib.Dec.{eqb}
@@ -32,13 +32,13 @@ use Rattle.census.specs.Census.{countsOf}
 use Rattle.census.specs.CensusLaws.{same-counts}
 use Rattle.openings.specs.Openings.{openingsOf}
 use Rattle.openings.specs.OpeningsLaws.{answer-count}
-use Rattle.calls.specs.Calls.{Call, insertion, evaluation, question, Answer, inserted, evaluated, questioned, answerTo, mapAfter, Event, runOf}
+use Rattle.calls.specs.Calls.{Call, insertion, evaluation, question, mapAfter, runOf}
 use Rattle.soundness.specs.FreshLaws.{sound-fresh}
 use Rattle.soundness.specs.InsertionLaws.{Grown}
 use Rattle.soundness.specs.MapCalls.{entry, mapAfterAll, entries}
 use Rattle.soundness.specs.MapLaws.{SoundMesh, unlisted, insertion-grown, ready-mesh, sound-call, listing-call}
-use Rattle.ledger.specs.Ledger.{madeBy, listedBy, openedBy, inferredBy, total, pointsAdded, pointsListed, sidesOpened, linksInferred, countsBy}
-use Rattle.ledger.specs.Theorem.{insertionAnswers, Ledger, LedgerOfSides}
+use Rattle.ledger.specs.Ledger.{madeBy, listedBy, openedBy, inferredBy, total, doneOrTorn, insertionsDone, sidesOpened, linksInferred, countsBy}
+use Rattle.ledger.specs.Theorem.{insertionAnswers, HasLedger, LedgerOfSides}
 use Rattle.ledger.specs.PriceLaws.{Price, worth}
 use Rattle.ledger.specs.ChangeLaws.{worthOf, Prices}
 use Rattle.ledger.specs.BookingLaws.{Booked, books}
@@ -111,7 +111,7 @@ module _ (map : Tmesh) (sound : SoundMesh (map .mesh)) (e : Float) (con : ℕ) (
 -- it follows the answers of its insertions, to a sound mesh
 record Follows (before : Mesh) (answers : List InsertAnswer) (after : Mesh) : Type 0 where
   sound : SoundMesh after
-  step : Step before (pointsAdded answers) (pointsListed answers) (sidesOpened answers) (linksInferred answers) after
+  step : Step before (doneOrTorn answers) (insertionsDone answers) (sidesOpened answers) (linksInferred answers) after
 
 -- from the same mesh
 from-same : {before other after : Mesh} {answers : List InsertAnswer} → before ≡ other → Follows before answers after → Follows other answers after
@@ -189,7 +189,7 @@ module _ (weight : Float) (bottomLeft bottomRight topRight topLeft : Position) w
   -- ---- THE LEDGER OF SIDES
   module _ (answers : List InsertAnswer) (map : Tmesh) (ran : Follows fresh answers (map .mesh)) where
     abbrev C : ℕ
-    C = pointsAdded answers
+    C = doneOrTorn answers
 
     abbrev O : ℕ
     O = sidesOpened answers
@@ -226,7 +226,7 @@ module _ (weight : Float) (bottomLeft bottomRight topRight topLeft : Position) w
         (sym (worth-ahead isLink (storeOf map)) ∙ links)
         (omega (arith, worth-passing isBorder (storeOf map), borders))
 
-    ledger : Ledger map answers
+    ledger : HasLedger map answers
     ledger =
         record {
           counts = counts;

@@ -3,7 +3,6 @@ ghost use mathlib.Core.Path.{_≡_};
 ghost use Rattle.map_replay.specs.Answers.{positionAt};
 
 mod answers;
-mod ledger;
 
 use crate::answers::Judged;
 use crate::answers::judge_cell;
@@ -15,11 +14,6 @@ use crate::answers::judge_knots;
 use crate::answers::judge_openings;
 use crate::answers::judge_ray;
 use crate::answers::map_is_right;
-use crate::ledger::DIRECT;
-use crate::ledger::INSERTION;
-use crate::ledger::ledger_holds;
-use crate::ledger::no_calls;
-use crate::ledger::with_call;
 use big_endian::after;
 use big_endian::byte_at;
 use big_endian::float_at;
@@ -47,6 +41,11 @@ use replay::outcome_of;
 use store::store::Store;
 use stored_calls::call::replay_call;
 use stored_calls::points::both;
+use stored_ledger::DIRECT;
+use stored_ledger::INSERTION;
+use stored_ledger::ledger_holds;
+use stored_ledger::no_calls;
+use stored_ledger::with_call;
 use t_mesh::t_mesh::Position;
 use t_mesh::t_mesh::Tmesh;
 use t_mesh::t_mesh::store_of;
@@ -293,8 +292,8 @@ fn new_map(list: &[u8]) -> Tmesh {
     )
 }
 
-// Whether every call of a list answers what is stored, and the last leaves the map that is stored, behind which nothing stands, with the counts that the
-// stored answers of the insertions say. A list that ends within its calls is wrong.
+// Whether every call of a list answers what is stored, and the last leaves the map that is stored, behind which nothing stands; and where no direct call is among them, whether
+// the map has the counts that the stored answers of the insertions say. A list that ends within its calls is wrong.
 fn is_right(list: &[u8]) -> bool {
     let mut map = new_map(list);
     let mut ledger = no_calls();

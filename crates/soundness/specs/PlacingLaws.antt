@@ -66,6 +66,13 @@ line-across : (d f : TmeshDirection) → Across d f → sideOf (pointInLine d) f
 line-across d f across = line-side d f ∙ rw (across .back, across .ahead)
 
 -- ---- a point that stands in a link
+-- the intervals on its two sides
+abbrev pub nearInterval : Float → Float → Float
+nearInterval interval ratio = mul binary64 interval ratio
+
+abbrev pub farInterval : Float → Float → Float
+farInterval interval ratio = mul binary64 interval (sub binary64 oneLiteral ratio)
+
 pub record Placed (store : Store) (d : TmeshDirection) (after : Store) : Type 0 where
   pub sound : Sound after
   pub made-is : after .made ≡ store .made + 1
@@ -74,7 +81,7 @@ pub record Placed (store : Store) (d : TmeshDirection) (after : Store) : Type 0 
 module _ (store : Store) (sound : Sound store) (con other : ℕ) (d : TmeshDirection) (interval : Float) (con-made : con < store .made)
     (link : storeSides store con d ≡ Link other interval) (roomy : store .made < 128) where
   -- ---- the link cut, and the point made
-  abbrev pub stood : Store
+  abbrev stood : Store
   stood = parted store con other d
 
   pub cut-sound : Sound (cut store con other d)
@@ -96,19 +103,13 @@ module _ (store : Store) (sound : Sound store) (con other : ℕ) (d : TmeshDirec
   other-made = sound .mirrored con d other interval con-made link .leads
 
   module _ (ratio : Float) where
-    abbrev pub nearInterval : Float
-    nearInterval = mul binary64 interval ratio
-
-    abbrev pub farInterval : Float
-    farInterval = mul binary64 interval (sub binary64 oneLiteral ratio)
-
     abbrev pub nearLinked : Store
-    nearLinked = linked stood con (store .made) d nearInterval
+    nearLinked = linked stood con (store .made) d (nearInterval interval ratio)
 
     near-joined : nearJoined store con other d interval ratio ≡ done nearLinked
     near-joined = near-done store (sound .room) roomy con other (is-made con con-made) (is-made other other-made) d interval ratio
 
-    pub far-joined : farJoined store con other d interval ratio ≡ done (linked nearLinked (store .made) other d farInterval)
+    pub far-joined : farJoined store con other d interval ratio ≡ done (linked nearLinked (store .made) other d (farInterval interval ratio))
     far-joined = far-done store (sound .room) roomy con other (is-made con con-made) (is-made other other-made) d interval ratio
 
     pub near-succeeds : nearJoined store con other d interval ratio .outcome ≡ Done
@@ -120,16 +121,16 @@ module _ (store : Store) (sound : Sound store) (con other : ℕ) (d : TmeshDirec
     pub near-joining : Joining (store .made + 1) (storeSides stood) con (store .made) d
     near-joining =
         done-joining (store .made + 1) (storeSides stood) con (store .made) d
-        (connect-outcome stood con (store .made) d nearInterval ∙ near-succeeds)
+        (connect-outcome stood con (store .made) d (nearInterval interval ratio) ∙ near-succeeds)
 
     pub near-sound : Sound nearLinked
-    near-sound = sound-linked stood stood-sound con (store .made) d nearInterval near-joining
+    near-sound = sound-linked stood stood-sound con (store .made) d (nearInterval interval ratio) near-joining
 
     pub far-joining : Joining (store .made + 1) (storeSides nearLinked) (store .made) other d
     far-joining =
         done-joining (store .made + 1) (storeSides nearLinked) (store .made) other d
-        (connect-outcome nearLinked (store .made) other d farInterval
-        ∙ ap (λ (changed : Changed). connectPoints (changed .store) (store .made) other d farInterval .outcome) (sym near-joined)
+        (connect-outcome nearLinked (store .made) other d (farInterval interval ratio)
+        ∙ ap (λ (changed : Changed). connectPoints (changed .store) (store .made) other d (farInterval interval ratio) .outcome) (sym near-joined)
         ∙ far-succeeds)
 
     pub placed-sound : Placed store d (placed store con other d interval ratio)
@@ -137,11 +138,11 @@ module _ (store : Store) (sound : Sound store) (con other : ℕ) (d : TmeshDirec
     placed-sound =
         subst (λ (changed : Changed). Placed store d (changed .store)) (sym far-joined)
         (record {
-          sound = sound-linked nearLinked near-sound (store .made) other d farInterval far-joining;
+          sound = sound-linked nearLinked near-sound (store .made) other d (farInterval interval ratio) far-joining;
           made-is = refl;
           across = λ f across.
-              linked-first nearLinked near-sound (store .made) other d farInterval far-joining f (across .ahead)
-              ∙ linked-other stood stood-sound con (store .made) d nearInterval near-joining f (across .back)
+              linked-first nearLinked near-sound (store .made) other d (farInterval interval ratio) far-joining f (across .ahead)
+              ∙ linked-other stood stood-sound con (store .made) d (nearInterval interval ratio) near-joining f (across .back)
               ∙ stood-new f
               ∙ line-across d f across;
         })

@@ -2,7 +2,7 @@
 -- of cells, buildings of knots, rays and direct calls on a fresh map of any border weight and corners, with any closeness and any arguments, calls
 -- refused or torn among them. Of the maps that they leave is said that links are mirrored and how they are counted, what is listed, that no
 -- connect of an insertion fails, and where 11 is answered; the call that is spoken of may have a closeness other than the list's.
-use Prim.Native.Nat.{ℕ, _<_, _+_, _*_}
+use Prim.Native.Nat.{ℕ, _<_, _*_}
 use mathlib.Core.Path.{_≡_}
 use mathlib.Core.Bool.{true, false, not, _&&_, _||_}
 use mathlib.Core.List.{List, [], _∷_}

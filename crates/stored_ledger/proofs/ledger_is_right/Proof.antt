@@ -1,8 +1,8 @@
 -- `ledger_is_right` meets its contract: by whether a direct call was made.
 use mathlib.Core.Path.{refl}
 use borrow.Author.Needs.{needs}
-use Rattle.map_replay.proofs.ledger.ledger_is_right.Statement.{statement}
-use Rattle.map_replay.proofs.ledger.ledger_is_right.Tie as tie
+use Rattle.stored_ledger.proofs.ledger_is_right.Statement.{statement}
+use Rattle.stored_ledger.proofs.ledger_is_right.Tie as tie
 
 returns : tie.Need-returns
 returns c = search needs

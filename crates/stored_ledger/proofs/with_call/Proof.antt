@@ -4,8 +4,8 @@ use mathlib.Core.Path.{sym, ap, _∙_}
 use borrow.Author.Tests.{eq-eqb, ne-eqb, lt-ltb, le-ltb}
 use lib.Dec.{eqb, ltb}
 use borrow.Author.Needs.{needs}
-use Rattle.map_replay.proofs.ledger.with_call.Statement.{statement}
-use Rattle.map_replay.proofs.ledger.with_call.Tie as tie
+use Rattle.stored_ledger.proofs.with_call.Statement.{statement}
+use Rattle.stored_ledger.proofs.with_call.Tie as tie
 
 byte-at-requires : tie.Need-byte-at-requires
 byte-at-requires c κs = search needs

@@ -12,19 +12,23 @@ use Rattle.census.specs.declared.census.Counts.{Counts}
 use Rattle.openings.specs.Openings.{openingsOf}
 use Rattle.t_mesh.specs.Tmesh.{storeOf}
 use Rattle.t_mesh.specs.declared.t_mesh.Tmesh.{Tmesh}
-use Rattle.map_replay.specs.declared.ledger.Totals.{Totals}
+use Rattle.stored_ledger.specs.declared.Totals.{Totals}
 
 -- ---- the totals
 abbrev pub noCalls : Totals
 noCalls = record { done = 0; torn = 0; opened = 0; inferred = 0; direct = false }
 
--- a total with more in it. A list has at most 65,535 calls, and each adds at most 255: no total is as large as 2 to the 31st
+-- more than any total: a list has at most 65,535 calls, and each adds at most 255
+abbrev pub most : ℕ
+most = 0x8000_0000
+
+-- a total with more in it: the remainder is the total itself
 abbrev pub withMore : ℕ → ℕ → ℕ
-withMore total more = total % 2147483648 + more
+withMore total more = total % most + more
 
 -- after an insertion that made a point; its counts stand at 36 and 37
-abbrev pub withPoint : Totals → ℕ → ℕ → List ℕ → Totals
-withPoint ledger done torn call = record {
+abbrev pub withMade : Totals → ℕ → ℕ → List ℕ → Totals
+withMade ledger done torn call = record {
   done = withMore (ledger .done) done;
   torn = withMore (ledger .torn) torn;
   opened = withMore (ledger .opened) (byteAt call 36);
@@ -35,7 +39,7 @@ withPoint ledger done torn call = record {
 -- after an insertion, by the number at 35: 0 is done, 8 is torn, any other a refusal, which made no point
 abbrev pub withInsertion : Totals → List ℕ → Totals
 withInsertion ledger call =
-    cond (eqb (byteAt call 35) 0) (withPoint ledger 1 0 call) (cond (eqb (byteAt call 35) 8) (withPoint ledger 0 1 call) ledger)
+    cond (eqb (byteAt call 35) 0) (withMade ledger 1 0 call) (cond (eqb (byteAt call 35) 8) (withMade ledger 0 1 call) ledger)
 
 abbrev pub withDirectCall : Totals → Totals
 withDirectCall ledger = record {

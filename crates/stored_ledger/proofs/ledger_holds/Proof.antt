@@ -3,8 +3,8 @@ use mathlib.Core.Path.{refl}
 use Rattle.openings.specs.Openings.{openingsOf}
 use Rattle.openings.specs.OpeningsLaws.{answer-count}
 use borrow.Author.Needs.{needs}
-use Rattle.map_replay.proofs.ledger.ledger_holds.Statement.{statement}
-use Rattle.map_replay.proofs.ledger.ledger_holds.Tie as tie
+use Rattle.stored_ledger.proofs.ledger_holds.Statement.{statement}
+use Rattle.stored_ledger.proofs.ledger_holds.Tie as tie
 
 store-of-requires : tie.Need-store-of-requires
 store-of-requires c κs = search needs

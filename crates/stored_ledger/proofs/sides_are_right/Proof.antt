@@ -1,8 +1,8 @@
 -- `sides_are_right` meets its contract: three counts, each compared with the ledger's.
 use mathlib.Core.Path.{refl}
 use borrow.Author.Needs.{needs}
-use Rattle.map_replay.proofs.ledger.sides_are_right.Statement.{statement}
-use Rattle.map_replay.proofs.ledger.sides_are_right.Tie as tie
+use Rattle.stored_ledger.proofs.sides_are_right.Statement.{statement}
+use Rattle.stored_ledger.proofs.sides_are_right.Tie as tie
 
 cast-inserted : tie.Need-cast-inserted
 cast-inserted c = search needs

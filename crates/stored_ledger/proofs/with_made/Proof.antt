@@ -1,8 +1,8 @@
--- `with_point` meets its contract: each total is added to by itself.
+-- `with_made` meets its contract: each total is added to by itself.
 use mathlib.Core.Path.{refl}
 use borrow.Author.Needs.{needs}
-use Rattle.map_replay.proofs.ledger.with_point.Statement.{statement}
-use Rattle.map_replay.proofs.ledger.with_point.Tie as tie
+use Rattle.stored_ledger.proofs.with_made.Statement.{statement}
+use Rattle.stored_ledger.proofs.with_made.Tie as tie
 
 with-more-requires : tie.Need-with-more-requires
 with-more-requires c κs = search needs
@@ -27,8 +27,8 @@ returns c =
     let o = c .before .before in
     rw (c .with-more4 .ensures, c .before .byte-at2 .ensures, o .with-more3 .ensures, o .before .byte-at .ensures, o .before .before .with-more2 .ensures, o .before .before .before .with-more .ensures) refl
 
-pub with-point-spec : {M : Type 1} → statement M
-with-point-spec =
+pub with-made-spec : {M : Type 1} → statement M
+with-made-spec =
     tie.close
     (tie.spec
     with-more-requires

@@ -1,6 +1,6 @@
 // The ledger of sides of a list of calls: what its insertions answered, by the stored bytes alone, held against what is counted of the map.
 ghost use mathlib.Core.Path.{_≡_};
-ghost use Rattle.map_replay.specs.Ledger.{noCalls, withMore, withPoint, withInsertion, withDirectCall, withCall, pointsAreRight, sidesAreRight, ledgerIsRight, ledgerHolds};
+ghost use Rattle.stored_ledger.specs.Ledger.{noCalls, withMore, withMade, withInsertion, withDirectCall, withCall, pointsAreRight, sidesAreRight, ledgerIsRight, ledgerHolds};
 use big_endian::byte_at;
 use census::census::Counts;
 use census::counts::counts;
@@ -46,8 +46,8 @@ fn with_more(total: u32, more: u8) -> u32
 }
 
 // An insertion that made a point, done or torn: its two counts are added.
-fn with_point(ledger: Totals, done: u8, torn: u8, call: &[u8]) -> Totals
-    ensures { λ r. ⌜ r ≡ withPoint ledger done torn (now (call .entry)) ⌝ }
+fn with_made(ledger: Totals, done: u8, torn: u8, call: &[u8]) -> Totals
+    ensures { λ r. ⌜ r ≡ withMade ledger done torn (now (call .entry)) ⌝ }
 {
     Totals {
         done: with_more(ledger.done, done),
@@ -64,10 +64,10 @@ fn with_insertion(ledger: Totals, call: &[u8]) -> Totals
 {
     let number = byte_at(call, 35);
     if number == 0 {
-        return with_point(ledger, 1, 0, call);
+        return with_made(ledger, 1, 0, call);
     }
     if number == 8 {
-        return with_point(ledger, 0, 1, call);
+        return with_made(ledger, 0, 1, call);
     }
     ledger
 }
