@@ -618,8 +618,8 @@ struct stored {
 enum { STORED_SET_POINT_BYTES = 18 + GATEMAP_VALUE_BYTES, STORED_CELL_BYTES = 3 + GATEMAP_CELL_BYTES };
 
 /*
- * The counts of a report by the answers of its edits, as far as it shows them: an edit without a line is done, 8 is torn. Each done or torn edit makes a point and a link,
- * opens at most two sides, and each link that it infers takes two of them away again.
+ * The counts of a report by the answers of its edits, as far as it shows them: an edit without a line is done, 8 is torn. Each done or torn edit
+ * makes a point and a link, opens at most two sides, and each link that it infers takes two of them away again.
  */
 static void report_counts(const char *text, size_t length, size_t edits)
 {
@@ -637,7 +637,8 @@ static void report_counts(const char *text, size_t length, size_t edits)
         openings += *line == 'o';
     }
     long inferred = links - made, opened = openings + 2 * inferred;
-    check(made == 4 + done + torn && listed == 4 + done, "stored file %lu: %ld made, %ld listed with %ld done, %ld torn", files, made, listed, done, torn);
+    check(made == 4 + done + torn && listed == 4 + done, "stored file %lu: %ld made, %ld listed with %ld done, %ld torn", files, made, listed,
+          done, torn);
     check(0 <= inferred && opened <= 2 * (done + torn), "stored file %lu: %ld inferred, %ld opened", files, inferred, opened);
 }
 

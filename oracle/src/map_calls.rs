@@ -69,7 +69,7 @@ pub struct Maps {
     pub followed: bool,
     /// Whether the knots that the two keep are the same: falling knots are sorted there.
     same_knots: bool,
-    /// What the insertions answered, until the first direct call: that changes sides by itself.
+    /// What the insertions answered, until the first direct call, which may change sides by itself.
     ledger: Option<Ledger>,
     pub corners: [[f64; 3]; 4],
     pub border: f64,
@@ -100,7 +100,9 @@ impl Maps {
         match call {
             MapCall::Insert { con, direction, ratio, position } => {
                 let answer = self.insert(con, direction, ratio, position);
-                self.ledger.iter_mut().for_each(|ledger| ledger.enter(answer));
+                if let Some(ledger) = &mut self.ledger {
+                    ledger.enter(answer);
+                }
                 MapAnswer::Inserted(answer)
             }
             MapCall::Ray { point, direction, count } => MapAnswer::Cast(self.ray(point, direction, count)),

@@ -407,7 +407,7 @@ fn all_linked() -> MapList {
     list
 }
 
-/// The edits of the sample whose answers a page shows, and the counts and openings that they leave.
+/// The edits of the sample whose answers docs/FORMATS.md adds up, and the counts and openings that they leave.
 fn of_sample() -> MapList {
     let file = sample();
     let mut list = MapList::new(file.corners, file.border);

@@ -144,7 +144,14 @@ pub fn bits(value: &Value) -> [u64; 4] {
     [x, y, z, value.weight].map(bits_of)
 }
 
-/// All that the program prints of a file. Its line of counts and its lines of openings are as many as the answers of the edits say.
+/// The counts that a text shows, made, listed and links in their line, openings by the number of their lines.
+fn counts_shown(text: &str) -> [usize; 4] {
+    let line = text.lines().find(|line| line.starts_with("made")).expect("a line of counts");
+    let numbers: Vec<usize> = line.split(' ').filter_map(|word| word.parse().ok()).collect();
+    [numbers[0], numbers[1], numbers[2], text.lines().filter(|line| line.starts_with("open")).count()]
+}
+
+/// All that the program prints of a file. The counts that it shows are those that the answers of the edits give.
 pub fn text(file: &[u8]) -> String {
     let mut run = match read(file) {
         Ok(file) => run(&file),
@@ -157,12 +164,12 @@ pub fn text(file: &[u8]) -> String {
         }
     }
     let counted = run.maps.census();
-    let openings = run.maps.reading.store.openings();
-    assert_eq!(Census { openings: openings.len(), ..counted }, run.by_answers(), "the counts printed");
     text += &format!("made {} listed {} links {}\n", counted.made, counted.listed, counted.links);
-    for (point, direction) in openings {
+    for (point, direction) in run.maps.reading.store.openings() {
         text += &format!("open {point} {direction}\n");
     }
+    let Census { made, listed, links, openings, .. } = run.by_answers();
+    assert_eq!(counts_shown(&text), [made, listed, links, openings], "the counts printed");
     text + &match run.set_point(0.5, 0.5) {
         Ok(value) => {
             let [x, y, z, weight] = bits(&value);
@@ -172,7 +179,7 @@ pub fn text(file: &[u8]) -> String {
     }
 }
 
-/// A sample and the answers of its edits, which a page shows.
+/// A sample and the answers of its edits, which docs/FORMATS.md adds up.
 const SAMPLE: &str = "samples/dryer.map";
 const ANSWERS: &str = "samples/dryer.answers";
 

@@ -107,8 +107,8 @@ fn lines<C: Debug>(calls: &[C]) -> String {
     calls.iter().map(|call| format!("\n    {call:?}")).collect()
 }
 
-/// Rays of length 5 from every point and side, the knots of every point, the openings, the counts, and values and cells, after what was drawn. Somewhere among
-/// the values the knots of all points are built anew.
+/// Rays of length 5 from every point and side, the knots of every point, the openings, the counts, and values and cells, after what was drawn.
+/// Somewhere among the values the knots of all points are built anew.
 fn probed(mut list: MapList, random: &mut Random) -> MapList {
     for point in 0..list.maps.made() as u8 {
         for direction in 0..4 {

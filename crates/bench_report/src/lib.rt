@@ -1,4 +1,4 @@
-// What bench/ times of the report. It stands apart from bench_host: the report calls `subs`, and what the compiler makes of `subs` depends on its callers.
+// What bench/ times of the report. It stands apart from bench_host: the report calls `subs`, and with another caller of it in the archive the rows by value read otherwise (bench/README.md).
 use report::report;
 
 // No report is longer.

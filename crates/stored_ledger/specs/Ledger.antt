@@ -14,6 +14,17 @@ use Rattle.t_mesh.specs.Tmesh.{storeOf}
 use Rattle.t_mesh.specs.declared.t_mesh.Tmesh.{Tmesh}
 use Rattle.stored_ledger.specs.declared.Totals.{Totals}
 
+-- ---- a stored insertion
+-- where its number and its two counts stand
+abbrev pub numberPlace : ℕ
+numberPlace = 35
+
+abbrev pub openedPlace : ℕ
+openedPlace = 36
+
+abbrev pub inferredPlace : ℕ
+inferredPlace = 37
+
 -- ---- the totals
 abbrev pub noCalls : Totals
 noCalls = record { done = 0; torn = 0; opened = 0; inferred = 0; direct = false }
@@ -26,20 +37,20 @@ most = 0x8000_0000
 abbrev pub withMore : ℕ → ℕ → ℕ
 withMore total more = total % most + more
 
--- after an insertion that made a point; its counts stand at 36 and 37
+-- after an insertion that made a point
 abbrev pub withMade : Totals → ℕ → ℕ → List ℕ → Totals
 withMade ledger done torn call = record {
   done = withMore (ledger .done) done;
   torn = withMore (ledger .torn) torn;
-  opened = withMore (ledger .opened) (byteAt call 36);
-  inferred = withMore (ledger .inferred) (byteAt call 37);
+  opened = withMore (ledger .opened) (byteAt call openedPlace);
+  inferred = withMore (ledger .inferred) (byteAt call inferredPlace);
   direct = ledger .direct;
 }
 
--- after an insertion, by the number at 35: 0 is done, 8 is torn, any other a refusal, which made no point
+-- after an insertion, by its number: 0 is done, 8 is torn, any other a refusal, which made no point
 abbrev pub withInsertion : Totals → List ℕ → Totals
 withInsertion ledger call =
-    cond (eqb (byteAt call 35) 0) (withMade ledger 1 0 call) (cond (eqb (byteAt call 35) 8) (withMade ledger 0 1 call) ledger)
+    cond (eqb (byteAt call numberPlace) 0) (withMade ledger 1 0 call) (cond (eqb (byteAt call numberPlace) 8) (withMade ledger 0 1 call) ledger)
 
 abbrev pub withDirectCall : Totals → Totals
 withDirectCall ledger = record {

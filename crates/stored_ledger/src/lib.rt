@@ -14,6 +14,13 @@ pub const INSERTION: u8 = 0;
 // The first of the kinds that are direct calls.
 pub const DIRECT: u8 = 16;
 
+// Where a stored insertion has its number and its two counts.
+const NUMBER_AT: usize = 35;
+
+const OPENED_AT: usize = 36;
+
+const INFERRED_AT: usize = 37;
+
 // More than any total: a list has at most 65,535 calls, and each adds at most 255.
 const MOST: u32 = 0x8000_0000;
 
@@ -52,8 +59,8 @@ fn with_made(ledger: Totals, done: u8, torn: u8, call: &[u8]) -> Totals
     Totals {
         done: with_more(ledger.done, done),
         torn: with_more(ledger.torn, torn),
-        opened: with_more(ledger.opened, byte_at(call, 36)),
-        inferred: with_more(ledger.inferred, byte_at(call, 37)),
+        opened: with_more(ledger.opened, byte_at(call, OPENED_AT)),
+        inferred: with_more(ledger.inferred, byte_at(call, INFERRED_AT)),
         direct: ledger.direct,
     }
 }
@@ -62,7 +69,7 @@ fn with_made(ledger: Totals, done: u8, torn: u8, call: &[u8]) -> Totals
 fn with_insertion(ledger: Totals, call: &[u8]) -> Totals
     ensures { λ r. ⌜ r ≡ withInsertion ledger (now (call .entry)) ⌝ }
 {
-    let number = byte_at(call, 35);
+    let number = byte_at(call, NUMBER_AT);
     if number == 0 {
         return with_made(ledger, 1, 0, call);
     }
