@@ -82,8 +82,8 @@ module _ (price : Price) (link border opening : ℕ) (prices : Prices price link
         → SidesMoved store (openedCount new) (inferredCount new) (withNewSide store p f new)
     worth-new-side (Takes taken) joins = omega (arith, moved-side (Border taken), prices .borders f taken)
     worth-new-side (Joins n interval) joins =
-        let joined = ap (λ (changed : Changed). worthOf price (changed .store)) (joined-linked store (sound .room) p (has-room store sound price p p-made) f n interval joins) in
-        let may = ap (λ (sides : Sides). connectable sides (store .made) p n f) (sides-side store (sound .room) p (has-room store sound price p p-made) f Opening) ∙ joins in
+        let joined = ap (λ (changed : Changed). worthOf price (changed .store)) (joined-linked store (sound .room) p (has-room store sound p p-made) f n interval joins) in
+        let may = ap (λ (sides : Sides). connectable sides (store .made) p n f) (sides-side store (sound .room) p (has-room store sound p p-made) f Opening) ∙ joins in
         omega (
           arith,
           moved-side Opening,
@@ -107,14 +107,14 @@ module _ (price : Price) (link border opening : ℕ) (prices : Prices price link
     unfolding withFirst
     worth-first =
         worth-new-side store sound p (clockwiseOf d) p-made weight (across (clockwiseOf d) (across-clockwise d)) (firstSide e store con p d)
-        (first-joins e store (sound .room) con p (has-room store sound price p p-made) d)
+        (first-joins e store (sound .room) con p (has-room store sound p p-made) d)
 
     worth-second : SidesMoved half (openedCount (secondSide e store con p d)) (inferredCount (secondSide e store con p d)) (sided e store con p d .store)
     unfolding sided
     worth-second =
         worth-new-side half (half-sided .sound) p (antiClockwiseOf d) (rw (half-sided .made-is) p-made) weight
         (half-sided .turned (antiClockwiseOf d) (anti-turned d) ∙ across (antiClockwiseOf d) (across-anti d)) (secondSide e store con p d)
-        (second-joins e store (sound .room) con p (has-room store sound price p p-made) d)
+        (second-joins e store (sound .room) con p (has-room store sound p p-made) d)
 
     worth-sided : SidesMoved store (openedCount (firstSide e store con p d) + openedCount (secondSide e store con p d))
         (inferredCount (firstSide e store con p d) + inferredCount (secondSide e store con p d)) (sided e store con p d .store)

@@ -40,18 +40,18 @@ module _ (price : Price) (sides : Sides) (made first other : ℕ) (d : TmeshDire
       let two = rw (ne-eqb other first apart) at (worth-with price (sidesWith sides first d side) made other (flipOf d) facing k) in
       omega arith
 
+pub has-room : (store : Store) → Sound store → (n : ℕ) → n < store .made → n < 128
+has-room store sound n h = let fits = sound .fits in omega arith
+
 module _ (store : Store) (sound : Sound store) (price : Price) where
   is-made : (n : ℕ) → n < store .made → isMade (store .made) n ≡ true
   is-made n h = made-isMade (store .made) n (sound .fits) h
-
-  pub has-room : (n : ℕ) → n < store .made → n < 128
-  has-room n h = let fits = sound .fits in omega arith
 
   pub worth-side : (n : ℕ) (d : TmeshDirection) (side : Side) → n < store .made
       → worthOf price (withSideAt store n d side) + price d (storeSides store n d) ≡ worthOf price store + price d side
   worth-side n d side h =
       subst (λ (sides : Sides). worth price sides (store .made) + price d (storeSides store n d) ≡ worthOf price store + price d side)
-      (sym (sides-side store (sound .room) n (has-room n h) d side))
+      (sym (sides-side store (sound .room) n (has-room store sound n h) d side))
       (worth-with price (storeSides store) (store .made) n d side (is-made n h))
 
   pub worth-new : (p : TmeshControlPoint) → store .made < 128 → worthOf price (withNew store p) ≡ worthOf price store + around price (sideOf p)
@@ -64,7 +64,7 @@ module _ (store : Store) (sound : Sound store) (price : Price) where
         → worthOf price (withSideAt (withSideAt store n d Opening) m (flipOf d) Opening) + link ≡ worthOf price store + (opening + opening)
     worth-cut n d m interval h is =
         let mirror : MirrorOf (store .made) (storeSides store) n d m interval = sound .mirrored n d m interval h is in
-        let same = ap (λ (sides : Sides). worth price sides (store .made)) (sides-opened store (sound .room) n m d (has-room n h) (has-room m (mirror .leads))) in
+        let same = ap (λ (sides : Sides). worth price sides (store .made)) (sides-opened store (sound .room) n m d (has-room store sound n h) (has-room store sound m (mirror .leads))) in
         let two = worth-two price (storeSides store) (store .made) n m d Opening Opening (is-made n h) (is-made m (mirror .leads)) (mirror .apart) in
         omega (arith, ap (price d) is, ap (price (flipOf d)) (mirror .faces), prices .links d m n interval interval, prices .openings d, prices .openings (flipOf d))
 

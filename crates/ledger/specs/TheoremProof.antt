@@ -51,14 +51,14 @@ record Step (before : Mesh) (made listed opened inferred : ℕ) (after : Mesh) :
   listed-is : countBelow 128 (listedIn (after .listed)) ≡ countBelow 128 (listedIn (before .listed)) + listed
   booked : Booked (meshStore before) made opened inferred (meshStore after)
 
-none : (mesh : Mesh) → Step mesh 0 0 0 0 mesh
-none mesh = record { made-is = omega arith; listed-is = omega arith; booked = λ price link border opening prices. omega arith }
+no-step : (mesh : Mesh) → Step mesh 0 0 0 0 mesh
+no-step mesh = record { made-is = omega arith; listed-is = omega arith; booked = λ price link border opening prices. omega arith }
 
 -- one step after the other
-then : {first second third : Mesh} {made listed opened inferred made′ listed′ opened′ inferred′ : ℕ}
+step-then : {first second third : Mesh} {made listed opened inferred made′ listed′ opened′ inferred′ : ℕ}
     → Step first made listed opened inferred second → Step second made′ listed′ opened′ inferred′ third
     → Step first (made + made′) (listed + listed′) (opened + opened′) (inferred + inferred′) third
-then one rest =
+step-then one rest =
     record {
       made-is = omega (arith, one .made-is, rest .made-is);
       listed-is = omega (arith, one .listed-is, rest .listed-is);
@@ -67,8 +67,8 @@ then one rest =
 
 -- ---- an insertion
 module _ (map : Tmesh) (sound : SoundMesh (map .mesh)) (e : Float) (con : ℕ) (d : TmeshDirection) (ratio : Float) (position : Position) where
-  abbrev Says : InsertAnswer → Mesh → Type 0
-  Says answer after = Step (map .mesh) (madeBy answer) (listedBy answer) (openedBy answer) (inferredBy answer) after
+  abbrev AnswerStep : InsertAnswer → Mesh → Type 0
+  AnswerStep answer after = Step (map .mesh) (madeBy answer) (listedBy answer) (openedBy answer) (inferredBy answer) after
 
   result : Inserted
   result = insertPoint e (storeOf map) (isListed map con) con d ratio
@@ -88,7 +88,7 @@ module _ (map : Tmesh) (sound : SoundMesh (map .mesh)) (e : Float) (con : ℕ) (
   by-answer : (answer : InsertAnswer) (store : Store) → Booked (storeOf map) (madeBy answer) (openedBy answer) (inferredBy answer) store
       → (isRefused answer ≡ false → Grown (storeOf map) store)
       → ((n : ℕ) → isListed (afterInsertion map position answer store) n ≡ ((isDone answer && eqb n (storeOf map .made)) || isListed map n))
-      → Says answer (afterInsertion map position answer store .mesh)
+      → AnswerStep answer (afterInsertion map position answer store .mesh)
   by-answer (Done opened inferred) store booked grown lists =
       record {
         made-is = grown refl .made-is;
@@ -101,9 +101,9 @@ module _ (map : Tmesh) (sound : SoundMesh (map .mesh)) (e : Float) (con : ℕ) (
         listed-is = omega (arith, count-same 128 _ (isListed map) (λ n below. lists n));
         booked = booked;
       }
-  by-answer (Refused refusal) store booked grown lists = none (map .mesh)
+  by-answer (Refused refusal) store booked grown lists = no-step (map .mesh)
 
-  insertion-step : Says (addControlPoint e map con d ratio position .answer) (addControlPoint e map con d ratio position .map .mesh)
+  insertion-step : AnswerStep (addControlPoint e map con d ratio position .answer) (addControlPoint e map con d ratio position .map .mesh)
   unfolding addControlPoint result
   insertion-step = by-answer (result .answer) (result .store) result-books result-grown result-lists
 
@@ -120,10 +120,10 @@ from-same {before} {other} {after} {answers} same ran = subst (λ (mesh : Mesh).
 follows : (e : Float) (calls : List Call) (map : Tmesh) → SoundMesh (map .mesh)
     → Follows (map .mesh) (insertionAnswers (runOf e map calls)) (mapAfterAll e map (entries calls) .mesh)
 unfolding runOf mapAfterAll entries insertionAnswers total subsOf cellPoints
-follows e [] map sound = record { sound = sound; step = none (map .mesh) }
+follows e [] map sound = record { sound = sound; step = no-step (map .mesh) }
 follows e (insertion con d ratio position ∷ calls) map sound =
     let rest = follows e calls (mapAfter e map (insertion con d ratio position)) (sound-call map sound e (entry (insertion con d ratio position))) in
-    record { sound = rest .sound; step = then (insertion-step map sound e con d ratio position) (rest .step) }
+    record { sound = rest .sound; step = step-then (insertion-step map sound e con d ratio position) (rest .step) }
 follows e (evaluation s t ∷ calls) map sound =
     from-same (ready-mesh map sound e) (follows e calls (mapAfter e map (evaluation s t)) (sound-call map sound e (entry (evaluation s t))))
 follows e (question cell ∷ calls) map sound =
