@@ -1,11 +1,13 @@
--- A list of calls on one map. Its entries are insertions (`add_control_point`), evaluations (`subs`) and questions which points reach a cell (`cell_points`), in any order,
--- with any arguments, whatever they answer. Each gets the map as the one before left it, after a refusal too. The calls are the definitions that the contracts of the code cite.
+-- A list of calls on one map. Its entries are insertions, those that stay where they are torn (`add_control_point`) and those that are then withdrawn (`add_or_withdraw`), evaluations
+-- (`subs`) and questions which points reach a cell (`cell_points`), in any order, with any arguments, whatever they answer. Each gets the map as the one before left it, after a refusal
+-- too. The calls are the definitions that the contracts of the code cite.
 use Prim.Native.Nat.{ℕ}
+use mathlib.Core.Bool.{Bool, false}
 use mathlib.Core.List.{List, [], _∷_}
 use lib.Ieee.{Float}
 use Rattle.control_point.specs.declared.t_mesh_direction.TmeshDirection.{TmeshDirection}
 use Rattle.insertion.specs.declared.insertion.InsertAnswer.{InsertAnswer}
-use Rattle.t_mesh.specs.Insertion.{addControlPoint}
+use Rattle.t_mesh.specs.Insertion.{addByRule}
 use Rattle.t_mesh.specs.declared.t_mesh.Position.{Position}
 use Rattle.t_mesh.specs.declared.t_mesh.Tmesh.{Tmesh}
 use Rattle.cells.specs.Cells.{cellPoints}
@@ -13,9 +15,10 @@ use Rattle.cells.specs.declared.CellAnswer.{CellAnswer}
 use Rattle.surface.specs.Evaluation.{subsOf}
 use Rattle.surface.specs.declared.evaluation.EvaluationAnswer.{EvaluationAnswer}
 
--- a call: an insertion towards a direction of a point, at a ratio, of a position; an evaluation at (s, t); or a question of a cell's byte
+-- a call: an insertion, withdrawn where it is torn or not, towards a direction of a point, at a ratio, of a position; an evaluation at (s, t); or a question of a
+-- cell's byte
 pub data Call : Type 0 where
-  insertion : ℕ → TmeshDirection → Float → Position → Call
+  insertion : Bool → ℕ → TmeshDirection → Float → Position → Call
   evaluation : Float → Float → Call
   question : ℕ → Call
 
@@ -24,15 +27,21 @@ pub data Answer : Type 0 where
   evaluated : EvaluationAnswer → Answer
   questioned : CellAnswer → Answer
 
+-- whether a call withdraws a torn insertion
+abbrev pub withdraws : Call → Bool
+withdraws (insertion rule con d ratio position) = rule
+withdraws (evaluation s t) = false
+withdraws (question cell) = false
+
 -- what a call on a map answers, with closeness e
 abbrev pub answerTo : Float → Tmesh → Call → Answer
-answerTo e map (insertion con d ratio position) = inserted (addControlPoint e map con d ratio position .answer)
+answerTo e map (insertion withdraws con d ratio position) = inserted (addByRule withdraws e map con d ratio position .answer)
 answerTo e map (evaluation s t) = evaluated (subsOf e map s t .answer)
 answerTo e map (question cell) = questioned (cellPoints e map cell .answer)
 
 -- the map after it
 abbrev pub mapAfter : Float → Tmesh → Call → Tmesh
-mapAfter e map (insertion con d ratio position) = addControlPoint e map con d ratio position .map
+mapAfter e map (insertion withdraws con d ratio position) = addByRule withdraws e map con d ratio position .map
 mapAfter e map (evaluation s t) = subsOf e map s t .map
 mapAfter e map (question cell) = cellPoints e map cell .map
 

@@ -2,11 +2,11 @@
 -- list of calls on the map made from them, and any axis. If the four corners lie in 0 to 1 on the axis, and so does the position of
 -- every insertion of the list that is answered done, then every evaluation of the list whose answer has a positive and finite total
 -- weight lies in 0 to 1 on the axis, both ends included, as the float that it is.
--- Nothing is asked of the insertions that are refused or torn, of the questions, of the other axes, of what the evaluations are given, or
+-- Nothing is asked of the insertions that are refused, torn or withdrawn, of the questions, of the other axes, of what the evaluations are given, or
 -- of the list's length. `le` and `lt` are f64's comparisons, false where either side is a NaN; `T b` says that the test b is true.
 use Prim.Native.Nat.{ℕ}
 use mathlib.Core.Path.{_≡_}
-use mathlib.Core.Bool.{false}
+use mathlib.Core.Bool.{Bool, false}
 use mathlib.Core.List.{List, [], _∷_}
 use lib.Dec.{T}
 use lib.Ieee.{Float, inf, lt, le}
@@ -32,8 +32,8 @@ Each P (x ∷ rest) = P x × Each P rest
 -- if the event is an insertion answered done, its position lies in 0 to 1 on the axis
 abbrev pub DoneInUnit : Axis → Event → Type 0
 DoneInUnit axis event =
-    (con : ℕ) (d : TmeshDirection) (ratio : Float) (position : Position) (opened links : ℕ)
-    → event .call ≡ insertion con d ratio position
+    (withdraws : Bool) (con : ℕ) (d : TmeshDirection) (ratio : Float) (position : Position) (opened links : ℕ)
+    → event .call ≡ insertion withdraws con d ratio position
     → event .answer ≡ inserted (Done opened links)
     → InUnit (coordinate axis position)
 

@@ -31,7 +31,7 @@ use Rattle.search.specs.declared.search.Judged.{Judged}
 use Rattle.search.specs.declared.search.Judged.the-variants.{On, Here, Ends, Fails}
 use Rattle.store.specs.Store.{storeSides, storePoint, withPoint, withSideAt, withNew, linked, settled, connectPoints}
 use Rattle.store.specs.declared.store.Store.{Store}
-use Rattle.insertion.specs.Insert.{inUnit, cut, pointInLine, placed, soughtSide, borderOr, newSide, withNewSide, isTorn, unlessTorn, firstSide, withFirst, secondSide, sided, insertPoint}
+use Rattle.insertion.specs.Insert.{inUnit, cut, pointInLine, placed, soughtSide, borderOr, newSide, withNewSide, tears, unlessTorn, firstSide, withFirst, secondSide, sided, insertPoint}
 use Rattle.insertion.specs.declared.insertion.Inserted.{Inserted}
 use Rattle.insertion.specs.declared.insertion.NewSide.{NewSide}
 use Rattle.insertion.specs.declared.insertion.NewSide.the-variants.{Takes, Joins, Opens, Tears, Stays}
@@ -225,7 +225,7 @@ module _ (e : Float) (store : Store) (good : GoodStore store) (con p : ℕ) (d :
       (new-side e (storeSides (withFirst e store con p d)) (store .made) con p (antiClockwiseOf d) (store-sides (withFirst e store con p d) with-first))
     where
       unless : (first second : NewSide) → GoodNewSide second → GoodNewSide (unlessTorn first second)
-      unless first second h = cond-case (isTorn first) GoodNewSide _ _ (λ _. tt) (λ _. h)
+      unless first second h = cond-case (tears first) GoodNewSide _ _ (λ _. tt) (λ _. h)
 
   both-sides : GoodStore (sided e store con p d .store)
   unfolding sided

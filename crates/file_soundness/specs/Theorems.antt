@@ -2,7 +2,8 @@
 -- gets is `hostNumber` and `hostBuffer`, and of a cell `hostCellNumber` and `hostCellBuffer`: the definitions that the contracts of the code cite.
 use Prim.Native.Nat.{ℕ, _<_, _≤_}
 use mathlib.Core.Path.{_≡_}
-use mathlib.Core.List.{List, [], _∷_, _++_, map}
+use mathlib.Core.Bool.{Bool, true, cond}
+use mathlib.Core.List.{List, [], _∷_, _++_}
 use lib.Dec.{T}
 use lib.Ieee.{Float, le}
 use lib.ListN.{length}
@@ -11,17 +12,17 @@ use Rattle.big_endian.specs.BigEndian.{numberAt, floatAt}
 use Rattle.control_point.specs.Refusal.{refusalNumber}
 use Rattle.control_point.specs.Small.{millionth}
 use Rattle.control_point.specs.declared.refusal.Refusal.{Refusal}
-use Rattle.insertion.specs.Insert.{answerNumber}
+use Rattle.insertion.specs.Insert.{isTorn}
 use Rattle.insertion.specs.declared.insertion.InsertAnswer.{InsertAnswer}
 use Rattle.t_mesh.specs.Tmesh.{Axis, X, Y, Z, coordinate, storeOf}
 use Rattle.t_mesh.specs.declared.t_mesh.Tmesh.{Tmesh}
 use Rattle.census.specs.Census.{countsOf}
 use Rattle.calls.specs.FullStroke.{InUnit}
 use Rattle.soundness.specs.Theorems.{OneOf}
-use Rattle.ledger.specs.Ledger.{countsBy, openingsBy}
+use Rattle.ledger.specs.Ledger.{entered, countsBy, openingsBy}
 use Rattle.ledger.specs.Theorem.{HasLedger}
 use Rattle.map_format.specs.Format.{borderAt, editsAt, editCount, Edit, editsFrom, checkedFile}
-use Rattle.map_file.specs.Run.{cornerOf, freshMap, edited, fileMap, fileNumbers}
+use Rattle.map_file.specs.Run.{cornerOf, edited, afterEdits, fileWithdraws, fileMap, fileAnswers, fileNumbers}
 use Rattle.map_format.specs.declared.format.FileCheck.the-variants.{Valid, Refused}
 use Rattle.report_text.specs.Text.{fileWord, newline, refusedText}
 use Rattle.openings.specs.Openings.{openingsOf}
@@ -111,27 +112,40 @@ FileCellSays =
     → Says (mapOf file .mesh .listed) (generateKnotVectors millionth (mapOf file) .map .knots) cell (cellIn (hostCellBuffer file cell out))
 
 -- ---- THE LEDGER OF SIDES, for files
--- what each edit answers, on the map as the one before it left it
-unfoldable pub editAnswers : Float → Tmesh → List Edit → List InsertAnswer
-editAnswers e before [] = []
-editAnswers e before (edit ∷ rest) = edited e before edit .answer ∷ editAnswers e (edited e before edit .map) rest
+-- the answers of a file's edits that the ledger has: those of withdrawn edits are left out
+abbrev pub fileEntries : Float → List ℕ → ℕ → List InsertAnswer
+fileEntries e file count = entered (fileWithdraws file) (fileAnswers e file count)
 
-abbrev pub fileAnswers : Float → List ℕ → ℕ → List InsertAnswer
-fileAnswers e file count = editAnswers e (freshMap file) (editsFrom count file editsAt)
-
--- The map that the edits of a file leave has the points, links, borders and openings that the answers of the edits give, and each link has its mirror, with
--- the same interval bits.
+-- The map that the edits of a file leave has the points, links, borders and openings that the answers of its edits give, no withdrawn one among them, and each link
+-- has its mirror, with the same interval bits.
 abbrev pub FileLedger : Type 0
-FileLedger = (e : Float) (file : List ℕ) (count : ℕ) → HasLedger (fileMap e file count) (fileAnswers e file count)
+FileLedger = (e : Float) (file : List ℕ) (count : ℕ) → HasLedger (fileMap e file count) (fileEntries e file count)
 
 -- What the program prints of a valid file is, but for which sides are open and for the line `mid`, what the answers of its edits give: a line for each that is refused
--- or torn, the counts, and as many lines of openings.
+-- or torn, withdrawn or not, the counts, and as many lines of openings.
 abbrev pub ReportByAnswers : Type 0
 ReportByAnswers =
     (file : List ℕ) (count room : ℕ)
     → checkedFile file ≡ Valid count
     → 32 ≤ room
-    → let answers = fileAnswers millionth file count in
+    → let entries = fileEntries millionth file count in
     let openings = openingsOf (storeOf (fileMap millionth file count)) in
-    (reportOf file ≡ editLines 1 (map answerNumber answers) ++ (countsLine (countsBy answers) ++ (openLines openings ++ midLine (hostAnswer file halfBits halfBits room))))
-    × (length openings ≡ openingsBy answers)
+    (reportOf file ≡ editLines 1 (fileNumbers millionth file count) ++ (countsLine (countsBy entries) ++ (openLines openings ++ midLine (hostAnswer file halfBits halfBits room))))
+    × (length openings ≡ openingsBy entries)
+
+-- ---- WITHDRAWN EDITS LEAVE NO TRACE
+-- the edits of a list that are not torn, each judged on the map as the run of the list by the rule that withdraws torn ones has it
+unfoldable pub untorn : Float → Tmesh → List Edit → List Edit
+untorn e before [] = []
+untorn e before (edit ∷ rest) =
+    cond (isTorn (edited true e before edit .answer)) (untorn e before rest) (edit ∷ untorn e (edited true e before edit .map) rest)
+
+-- Where torn edits are withdrawn, a list of edits leaves the map that its edits that are not torn leave by themselves, by either rule.
+abbrev pub WithdrawnLeaveNoTrace : Type 0
+WithdrawnLeaveNoTrace =
+    (withdraws : Bool) (e : Float) (before : Tmesh) (edits : List Edit) → afterEdits true e before edits ≡ afterEdits withdraws e before (untorn e before edits)
+
+-- A file whose torn edits are withdrawn leaves as many points listed as made.
+abbrev pub AllMadeAreListed : Type 0
+AllMadeAreListed =
+    (e : Float) (file : List ℕ) (count : ℕ) → fileWithdraws file ≡ true → countsOf (fileMap e file count) .made ≡ countsOf (fileMap e file count) .listed

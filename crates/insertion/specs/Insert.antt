@@ -47,6 +47,22 @@ insertTold (Refused refusal) = refusalTold refusal
 abbrev pub answerNumber : InsertAnswer → ℕ
 answerNumber answer = insertTold answer .number
 
+-- whether it is done, whether it is torn, and whether it is refused
+abbrev pub isDone : InsertAnswer → Bool
+isDone (Done opened inferred) = true
+isDone (Torn opened inferred) = false
+isDone (Refused refusal) = false
+
+abbrev pub isTorn : InsertAnswer → Bool
+isTorn (Done opened inferred) = false
+isTorn (Torn opened inferred) = true
+isTorn (Refused refusal) = false
+
+abbrev pub isRefused : InsertAnswer → Bool
+isRefused (Done opened inferred) = false
+isRefused (Torn opened inferred) = false
+isRefused (Refused refusal) = true
+
 -- ---- the checks, in order
 -- from 0 to 1: −0.0 passes, a NaN does not
 unfoldable pub inUnit : Float → Bool
@@ -135,16 +151,16 @@ withNewSide store p f Stays = store
 
 -- ---- the two sides of p, clockwise first
 -- whether the search for it failed
-abbrev pub isTorn : NewSide → Bool
-isTorn (Takes weight) = false
-isTorn (Joins n interval) = false
-isTorn Opens = false
-isTorn Tears = true
-isTorn Stays = false
+abbrev pub tears : NewSide → Bool
+tears (Takes weight) = false
+tears (Joins n interval) = false
+tears Opens = false
+tears Tears = true
+tears Stays = false
 
 -- the side after a first one: torn there, it stays the border that it is
 abbrev pub unlessTorn : NewSide → NewSide → NewSide
-unlessTorn first second = cond (isTorn first) Stays second
+unlessTorn first second = cond (tears first) Stays second
 
 -- the sides opened and the links inferred: 1 or 0 for a side
 abbrev pub openedCount : NewSide → ℕ
@@ -167,7 +183,7 @@ countedAnswer torn opened inferred = cond torn (Torn opened inferred) (Done open
 
 abbrev pub answerOf : NewSide → NewSide → InsertAnswer
 answerOf first second =
-    countedAnswer (isTorn first || isTorn second) (openedCount first + openedCount second) (inferredCount first + inferredCount second)
+    countedAnswer (tears first || tears second) (openedCount first + openedCount second) (inferredCount first + inferredCount second)
 
 -- in the store in which p stands: the first side, the store with it, and the second side
 unfoldable pub firstSide : Float → Store → ℕ → ℕ → TmeshDirection → NewSide

@@ -33,7 +33,7 @@ use Rattle.store.specs.Store.{storeSides, storePoint, withSideAt, linked, done,
 use Rattle.store.specs.StoreLaws.{room-kept, sides-side, sides-new, sides-linked}
 use Rattle.store.specs.declared.store.Changed.{Changed}
 use Rattle.store.specs.declared.store.Store.{Store}
-use Rattle.insertion.specs.Insert.{inUnit, checkedIntervals, checkedFacing, checkedSide, checked, checkedLink, cut, pointInLine, parted, nearJoined, farJoined, placed, soughtSide, borderOr, newSide, withNewSide, isTorn, unlessTorn, openedCount, inferredCount, countedAnswer, firstSide, withFirst, secondSide, sided, passed, insertPoint}
+use Rattle.insertion.specs.Insert.{inUnit, checkedIntervals, checkedFacing, checkedSide, checked, checkedLink, cut, pointInLine, parted, nearJoined, farJoined, placed, soughtSide, borderOr, newSide, withNewSide, tears, unlessTorn, openedCount, inferredCount, countedAnswer, firstSide, withFirst, secondSide, sided, passed, insertPoint}
 use Rattle.insertion.specs.declared.insertion.NewSide.{NewSide}
 use Rattle.insertion.specs.declared.insertion.NewSide.the-variants.{Takes, Joins, Opens, Tears, Stays}
 use Rattle.insertion.specs.declared.insertion.Checked.{Checked}
@@ -96,7 +96,7 @@ module _ (sides : Sides) (made p : ℕ) (f : TmeshDirection) where
       (found-joins (findInferredConnection e (sidesWith sides p f Opening) made p f) (found-connects e (sidesWith sides p f Opening) made p f))
 
   unless-joins : (first second : NewSide) → MayJoin sides made p f second → MayJoin sides made p f (unlessTorn first second)
-  unless-joins first second h = by-test (isTorn first)
+  unless-joins first second h = by-test (tears first)
     where
       by-test : (b : Bool) → MayJoin sides made p f (cond b Stays second)
       by-test true = tt
@@ -351,7 +351,7 @@ counted-not false opened inferred refusal g = let z : _≡_ {A = ℕ} 0 1 = cc i
 
 sided-answers : (e : Float) (store : Store) (con p : ℕ) (d : TmeshDirection) (refusal : Refusal) → sided e store con p d .answer ≡ Refused refusal → ⊥
 unfolding sided
-sided-answers e store con p d refusal = counted-not (isTorn (firstSide e store con p d) || isTorn (secondSide e store con p d)) _ _ refusal
+sided-answers e store con p d refusal = counted-not (tears (firstSide e store con p d) || tears (secondSide e store con p d)) _ _ refusal
 
 pub refused-same : (e : Float) (store : Store) (listed : Bool) (con : ℕ) (d : TmeshDirection) (ratio : Float) (refusal : Refusal)
     → insertPoint e store listed con d ratio .answer ≡ Refused refusal → insertPoint e store listed con d ratio .store ≡ store

@@ -4,3 +4,5 @@ pub mod Lent
 pub mod InsertLaws
 pub mod LentLaws
 pub mod TableLaws
+pub mod Withdrawal
+pub mod WithdrawalLaws

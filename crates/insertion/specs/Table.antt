@@ -13,13 +13,13 @@ use Rattle.control_point.specs.declared.t_mesh_control_point.Side.{Side}
 use Rattle.control_point.specs.declared.t_mesh_direction.TmeshDirection.{TmeshDirection}
 use Rattle.store.specs.Store.{storeSides}
 use Rattle.store.specs.declared.store.Store.{Store}
-use Rattle.insertion.specs.Insert.{counted, inUnit, placed, isTorn, openedCount, inferredCount, firstSide, secondSide}
+use Rattle.insertion.specs.Insert.{counted, inUnit, placed, tears, openedCount, inferredCount, firstSide, secondSide}
 use Rattle.insertion.specs.declared.insertion.NewSide.{NewSide}
 
 -- by what both sides became
 abbrev pub sidesTable : NewSide → NewSide → Told
 sidesTable first second =
-    counted (cond (isTorn first || isTorn second) 8 0) (openedCount first + openedCount second) (inferredCount first + inferredCount second)
+    counted (cond (tears first || tears second) 8 0) (openedCount first + openedCount second) (inferredCount first + inferredCount second)
 
 -- p placed
 abbrev pub placedTable : Float → Store → ℕ → ℕ → TmeshDirection → Told

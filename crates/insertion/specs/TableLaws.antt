@@ -17,7 +17,7 @@ use Rattle.control_point.specs.declared.t_mesh_control_point.Side.the-variants.
 use Rattle.control_point.specs.declared.t_mesh_direction.TmeshDirection.{TmeshDirection}
 use Rattle.store.specs.Store.{storeSides}
 use Rattle.store.specs.declared.store.Store.{Store}
-use Rattle.insertion.specs.Insert.{counted, insertTold, inUnit, checkedIntervals, checkedFacing, checkedSide, checked, placed, isTorn, countedAnswer, firstSide, secondSide, sided, passed, insertPoint}
+use Rattle.insertion.specs.Insert.{counted, insertTold, inUnit, checkedIntervals, checkedFacing, checkedSide, checked, placed, tears, countedAnswer, firstSide, secondSide, sided, passed, insertPoint}
 use Rattle.insertion.specs.Table.{placedTable, linkTable, insertionTable}
 use Rattle.insertion.specs.declared.insertion.Checked.{Checked}
 use Rattle.insertion.specs.declared.insertion.Checked.the-variants.{Passed, Refused as NotPassed}
@@ -28,7 +28,7 @@ counted-told false opened inferred = refl
 
 sided-told : (e : Float) (store : Store) (con p : ℕ) (d : TmeshDirection) → insertTold (sided e store con p d .answer) ≡ placedTable e store con p d
 unfolding sided
-sided-told e store con p d = counted-told (isTorn (firstSide e store con p d) || isTorn (secondSide e store con p d)) _ _
+sided-told e store con p d = counted-told (tears (firstSide e store con p d) || tears (secondSide e store con p d)) _ _
 
 module _ (e : Float) (store : Store) (con : ℕ) (d : TmeshDirection) (ratio : Float) where
   abbrev told : Checked → Told

@@ -1,6 +1,6 @@
 // What an insertion finds and answers.
 ghost use mathlib.Core.Path.{_≡_};
-ghost use Rattle.insertion.specs.Insert.{answerNumber, openedCount, inferredCount, isTorn, answerOf};
+ghost use Rattle.insertion.specs.Insert.{answerNumber, isDone, isTorn, isRefused, openedCount, inferredCount, tears, answerOf};
 use control_point::refusal::Refusal;
 use store::store::Store;
 
@@ -42,6 +42,36 @@ impl InsertAnswer {
     }
 }
 
+pub fn is_done(answer: InsertAnswer) -> bool
+    ensures { λ r. ⌜ r ≡ isDone answer ⌝ }
+{
+    match answer {
+        InsertAnswer::Done(_, _) => true,
+        InsertAnswer::Torn(_, _) => false,
+        InsertAnswer::Refused(_) => false,
+    }
+}
+
+pub fn is_torn(answer: InsertAnswer) -> bool
+    ensures { λ r. ⌜ r ≡ isTorn answer ⌝ }
+{
+    match answer {
+        InsertAnswer::Done(_, _) => false,
+        InsertAnswer::Torn(_, _) => true,
+        InsertAnswer::Refused(_) => false,
+    }
+}
+
+pub fn is_refused(answer: InsertAnswer) -> bool
+    ensures { λ r. ⌜ r ≡ isRefused answer ⌝ }
+{
+    match answer {
+        InsertAnswer::Done(_, _) => false,
+        InsertAnswer::Torn(_, _) => false,
+        InsertAnswer::Refused(_) => true,
+    }
+}
+
 pub struct Inserted {
     pub answer: InsertAnswer,
     pub store: Store,
@@ -71,8 +101,8 @@ fn inferred_count(side: NewSide) -> u8
     }
 }
 
-fn is_torn(side: NewSide) -> bool
-    ensures { λ r. ⌜ r ≡ isTorn side ⌝ }
+fn tears(side: NewSide) -> bool
+    ensures { λ r. ⌜ r ≡ tears side ⌝ }
 {
     match side {
         NewSide::Takes(_) => false,
@@ -89,10 +119,10 @@ pub fn answer_of(first: NewSide, second: NewSide) -> InsertAnswer
 {
     let opened = opened_count(first) + opened_count(second);
     let inferred = inferred_count(first) + inferred_count(second);
-    if is_torn(first) {
+    if tears(first) {
         return InsertAnswer::Torn(opened, inferred);
     }
-    if is_torn(second) {
+    if tears(second) {
         return InsertAnswer::Torn(opened, inferred);
     }
     InsertAnswer::Done(opened, inferred)

@@ -21,7 +21,7 @@ use Rattle.store.specs.declared.store.Changed.{Changed}
 use Rattle.store.specs.declared.store.Store.{Store}
 use Rattle.mirror.specs.Mirror.{Sound}
 use Rattle.mirror.specs.MirrorLaws.{done-joining, sound-side}
-use Rattle.insertion.specs.Insert.{cut, pointInLine, parted, placed, withNewSide, isTorn, openedCount, inferredCount, countedAnswer, firstSide, withFirst, secondSide, sided, insertPoint}
+use Rattle.insertion.specs.Insert.{cut, pointInLine, parted, placed, withNewSide, tears, openedCount, inferredCount, countedAnswer, firstSide, withFirst, secondSide, sided, insertPoint}
 use Rattle.insertion.specs.InsertLaws.{MayJoin, joined-linked, first-joins, second-joins}
 use Rattle.insertion.specs.declared.insertion.InsertAnswer.the-variants.{Refused}
 use Rattle.insertion.specs.declared.insertion.Inserted.{Inserted}
@@ -143,7 +143,7 @@ module _ (e : Float) (store : Store) (sound : Sound store) (con : ℕ) (d : Tmes
       → Books store (sided e (placed store con other d interval ratio) con (store .made) d)
   unfolding sided
   books-placed other interval con-made is roomy =
-      books-counted store _ (isTorn first || isTorn second) _ _
+      books-counted store _ (tears first || tears second) _ _
       (λ price link border opening prices.
       omega (
         arith,

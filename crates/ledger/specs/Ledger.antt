@@ -1,9 +1,22 @@
--- The ledger of a list of insertions: what their answers, done, torn or refused, say of the sides of the map that they leave. Nothing but the answers is looked at.
+-- The ledger of a list of insertions: what their answers, done, torn or refused, say of the sides of the map that they leave. Nothing but the answers is looked at. A
+-- withdrawn insertion has no place in it.
 use Prim.Native.Nat.{ℕ, _+_, _*_, _-_}
+use mathlib.Core.Bool.{Bool}
 use mathlib.Core.List.{List, [], _∷_}
+use Rattle.insertion.specs.Withdrawal.{unlessWithdrawn}
 use Rattle.insertion.specs.declared.insertion.InsertAnswer.{InsertAnswer}
 use Rattle.insertion.specs.declared.insertion.InsertAnswer.the-variants.{Done, Torn, Refused}
 use Rattle.census.specs.declared.census.Counts.{Counts}
+
+-- ---- which answers are entered
+-- an answer before others, unless it is that of a withdrawn insertion
+abbrev pub enteredBefore : Bool → InsertAnswer → List InsertAnswer → List InsertAnswer
+enteredBefore withdraws answer rest = unlessWithdrawn withdraws answer rest (answer ∷ rest)
+
+-- of a list of answers, where torn insertions are withdrawn or are not
+unfoldable pub entered : Bool → List InsertAnswer → List InsertAnswer
+entered withdraws [] = []
+entered withdraws (answer ∷ rest) = enteredBefore withdraws answer (entered withdraws rest)
 
 -- ---- what one answer says
 -- whether a point was made, 1 or 0, and whether it was listed
@@ -33,7 +46,7 @@ unfoldable pub total : (InsertAnswer → ℕ) → List InsertAnswer → ℕ
 total number [] = 0
 total number (answer ∷ rest) = number answer + total number rest
 
--- document 02's C, the insertions done or torn
+-- document 02's C, the insertions done or torn, no withdrawn one among them
 abbrev pub doneOrTorn : List InsertAnswer → ℕ
 doneOrTorn = total madeBy
 

@@ -1,6 +1,6 @@
 -- THE LEDGER OF SIDES. Take any list of insertions, with evaluations and questions of cells among them or none, on a fresh map of any border weight and corners,
--- with any closeness and any arguments, calls refused or torn among them. Let C be how many insertions are answered done or torn, O the sum of the sides that they
--- opened and I the sum of the links that they inferred, done or torn, as they answer. Then the map that the list leaves has
+-- with any closeness and any arguments, calls refused, torn or withdrawn among them. Let C be how many insertions are answered done or torn and are not withdrawn, O the
+-- sum of the sides that they opened and I the sum of the links that they inferred, as they answer. Then the map that the list leaves has
 --
 --   points made    4 + C
 --   two-way links  4 + C + I
@@ -10,6 +10,7 @@
 -- and neither difference is cut off at 0. The left sides are counted from the mesh, as the calls `counts` and `openings` answer them; the right sides take the answers
 -- alone. `counts` answers the points listed too: they are 4 and the insertions done. Each link has its mirror, with the same interval, bit for bit.
 use Prim.Native.Nat.{ℕ, _+_, _*_, _<_, _≤_}
+use mathlib.Core.Bool.{Bool}
 use mathlib.Core.List.{List, [], _∷_}
 use mathlib.Core.Path.{_≡_}
 use lib.Ieee.{Float}
@@ -23,21 +24,21 @@ use Rattle.t_mesh.specs.declared.t_mesh.Position.{Position}
 use Rattle.t_mesh.specs.declared.t_mesh.Tmesh.{Tmesh}
 use Rattle.census.specs.Census.{countsOf}
 use Rattle.openings.specs.Openings.{openingsOf, openingsAnswer}
-use Rattle.calls.specs.Calls.{Call, Answer, inserted, evaluated, questioned, Event, runOf}
+use Rattle.calls.specs.Calls.{Call, Answer, inserted, evaluated, questioned, withdraws, Event, runOf}
 use Rattle.soundness.specs.MapCalls.{mapAfterAll, entries}
 use Rattle.soundness.specs.Theorems.{EveryMap}
-use Rattle.ledger.specs.Ledger.{doneOrTorn, sidesOpened, linksInferred, countsBy, openingsBy}
+use Rattle.ledger.specs.Ledger.{enteredBefore, doneOrTorn, sidesOpened, linksInferred, countsBy, openingsBy}
 
--- an answer before others, if it is an insertion's
-abbrev pub answerBefore : Answer → List InsertAnswer → List InsertAnswer
-answerBefore (inserted answer) rest = answer ∷ rest
-answerBefore (evaluated answer) rest = rest
-answerBefore (questioned answer) rest = rest
+-- an answer before others, if it is that of an insertion that is not withdrawn
+abbrev pub answerBefore : Bool → Answer → List InsertAnswer → List InsertAnswer
+answerBefore rule (inserted answer) rest = enteredBefore rule answer rest
+answerBefore rule (evaluated answer) rest = rest
+answerBefore rule (questioned answer) rest = rest
 
--- what the insertions of a run answered, in order
+-- what the insertions of a run that are not withdrawn answered, in order
 unfoldable pub insertionAnswers : List Event → List InsertAnswer
 insertionAnswers [] = []
-insertionAnswers (event ∷ rest) = answerBefore (event .answer) (insertionAnswers rest)
+insertionAnswers (event ∷ rest) = answerBefore (withdraws (event .call)) (event .answer) (insertionAnswers rest)
 
 -- what is said of a map and of the answers of the insertions that made it from a fresh one:
 -- the points made and listed, the two-way links and the borders;

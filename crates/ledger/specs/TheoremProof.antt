@@ -17,11 +17,11 @@ use Rattle.control_point.specs.declared.t_mesh_control_point.Side.the-variants.
 use Rattle.control_point.specs.declared.t_mesh_direction.TmeshDirection.{TmeshDirection}
 use Rattle.control_point.specs.declared.t_mesh_direction.TmeshDirection.the-variants.{Up, Right, Down, Left}
 use Rattle.store.specs.declared.store.Store.{Store}
-use Rattle.insertion.specs.Insert.{insertPoint}
+use Rattle.insertion.specs.Insert.{isDone, isRefused, insertPoint}
 use Rattle.insertion.specs.declared.insertion.InsertAnswer.{InsertAnswer}
 use Rattle.insertion.specs.declared.insertion.InsertAnswer.the-variants.{Done, Torn, Refused}
 use Rattle.insertion.specs.declared.insertion.Inserted.{Inserted}
-use Rattle.t_mesh.specs.Insertion.{isDone, isRefused, afterInsertion, addControlPoint}
+use Rattle.t_mesh.specs.Insertion.{afterInsertion, addControlPoint}
 use Rattle.t_mesh.specs.Tmesh.{storeOf, meshStore, listedIn, isListed, cornerStore, newTmesh}
 use Rattle.t_mesh.specs.declared.t_mesh.Mesh.{Mesh}
 use Rattle.t_mesh.specs.declared.t_mesh.Position.{Position}

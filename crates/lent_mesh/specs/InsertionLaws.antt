@@ -12,7 +12,7 @@ use lib.ListN.{length, length-set, getD, set}
 use lib.Seq.{getD-set-same, getD-set-other}
 use Rattle.control_point.specs.declared.t_mesh_control_point.TmeshControlPoint.{TmeshControlPoint}
 use Rattle.control_point.specs.declared.t_mesh_direction.TmeshDirection.{TmeshDirection}
-use Rattle.insertion.specs.Insert.{insertPoint}
+use Rattle.insertion.specs.Insert.{isDone, isRefused, insertPoint}
 use Rattle.insertion.specs.InsertLaws.{refused-same}
 use Rattle.insertion.specs.Lent.{Inserts}
 use Rattle.insertion.specs.declared.insertion.InsertAnswer.{InsertAnswer}
@@ -20,7 +20,7 @@ use Rattle.insertion.specs.declared.insertion.InsertAnswer.the-variants.{Done, 
 use Rattle.insertion.specs.declared.insertion.Inserted.{Inserted}
 use Rattle.lent_points.specs.Lent.{Points, Held}
 use Rattle.lent_points.specs.LentLaws.{true-false}
-use Rattle.t_mesh.specs.Insertion.{isDone, isRefused, insertIntoMesh}
+use Rattle.t_mesh.specs.Insertion.{insertIntoMesh}
 use Rattle.t_mesh.specs.InsertionLaws.{placed-made, mesh-refused, mesh-placed}
 use Rattle.t_mesh.specs.Tmesh.{meshStore, listedIn, origin}
 use Rattle.t_mesh.specs.declared.add.InsertedMesh.{InsertedMesh}

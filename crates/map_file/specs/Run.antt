@@ -1,13 +1,15 @@
--- The run of a valid file: the map of its border and corners, and its edits in order, each given the map as the last left it; a refused one is passed over.
--- e is the closeness. What is answered at (s, t) is the set-point of an evaluation of the map that the run leaves.
+-- The run of a valid file: the map of its border and corners, and its edits in order, each given the map as the last left it; a refused one is passed over, and
+-- the version says whether a torn one stays or is withdrawn. e is the closeness. What is answered at (s, t) is the set-point of an evaluation of the map that the run leaves.
 use Prim.Native.Nat.{ℕ, _+_, _*_}
-use mathlib.Core.List.{List, [], _∷_}
+use mathlib.Core.Bool.{Bool}
+use mathlib.Core.List.{List, [], _∷_, map}
 use mathlib.Core.Path.{_≡_}
 use lib.Ieee.{Float}
 use Rattle.big_endian.specs.BigEndian.{floatAt}
 use Rattle.insertion.specs.Insert.{answerNumber}
+use Rattle.insertion.specs.declared.insertion.InsertAnswer.{InsertAnswer}
 use Rattle.t_mesh.specs.Tmesh.{newTmesh}
-use Rattle.t_mesh.specs.Insertion.{insertIntoMesh, addControlPoint}
+use Rattle.t_mesh.specs.Insertion.{addByRule, meshByRule}
 use Rattle.t_mesh.specs.declared.t_mesh.Mesh.{Mesh}
 use Rattle.t_mesh.specs.declared.t_mesh.Position.{Position}
 use Rattle.t_mesh.specs.declared.t_mesh.Tmesh.{Tmesh}
@@ -16,7 +18,7 @@ use Rattle.t_mesh.specs.declared.add.InsertedMesh.{InsertedMesh}
 use Rattle.surface.specs.Evaluation.{subsOf, asSetPoint}
 use Rattle.surface.specs.declared.evaluation.EvaluationAnswer.{EvaluationAnswer}
 use Rattle.surface.specs.declared.evaluation.EvaluationAnswer.the-variants.{Refused as NotEvaluated}
-use Rattle.map_format.specs.Format.{borderAt, cornersAt, positionBytes, editsAt, positionAt, Edit, editsFrom, checkedFile}
+use Rattle.map_format.specs.Format.{borderAt, cornersAt, positionBytes, editsAt, versionOf, withdrawsTorn, positionAt, Edit, editsFrom, checkedFile}
 use Rattle.map_format.specs.declared.format.FileCheck.{FileCheck}
 use Rattle.map_format.specs.declared.format.FileCheck.the-variants.{Valid, Refused}
 
@@ -28,33 +30,44 @@ abbrev pub freshMap : List ℕ → Tmesh
 freshMap bytes = newTmesh (floatAt bytes borderAt) (cornerOf bytes 0) (cornerOf bytes 1) (cornerOf bytes 2) (cornerOf bytes 3)
 
 -- ---- the edits
-abbrev pub edited : Float → Tmesh → Edit → Added
-edited e map edit = addControlPoint e map (edit .point) (edit .direction) (edit .ratio) (edit .position)
+-- an edit, where torn ones are withdrawn or are not
+abbrev pub edited : Bool → Float → Tmesh → Edit → Added
+edited withdraws e map edit = addByRule withdraws e map (edit .point) (edit .direction) (edit .ratio) (edit .position)
 
 -- an edit, as far as it is the mesh's
-abbrev pub meshEdited : Float → Mesh → Edit → InsertedMesh
-meshEdited e mesh edit = insertIntoMesh e mesh (edit .point) (edit .direction) (edit .ratio) (edit .position)
+abbrev pub meshEdited : Bool → Float → Mesh → Edit → InsertedMesh
+meshEdited withdraws e mesh edit = meshByRule withdraws e mesh (edit .point) (edit .direction) (edit .ratio) (edit .position)
 
 -- the map after all
-unfoldable pub afterEdits : Float → Tmesh → List Edit → Tmesh
-afterEdits e map [] = map
-afterEdits e map (edit ∷ rest) = afterEdits e (edited e map edit .map) rest
+unfoldable pub afterEdits : Bool → Float → Tmesh → List Edit → Tmesh
+afterEdits withdraws e map [] = map
+afterEdits withdraws e map (edit ∷ rest) = afterEdits withdraws e (edited withdraws e map edit .map) rest
 
--- their answer numbers, in order: 0 done, 8 torn, or the refusal's
-unfoldable pub editNumbers : Float → Tmesh → List Edit → List ℕ
-editNumbers e map [] = []
-editNumbers e map (edit ∷ rest) = answerNumber (edited e map edit .answer) ∷ editNumbers e (edited e map edit .map) rest
+-- their answers, in order
+unfoldable pub editAnswers : Bool → Float → Tmesh → List Edit → List InsertAnswer
+editAnswers withdraws e map [] = []
+editAnswers withdraws e map (edit ∷ rest) = edited withdraws e map edit .answer ∷ editAnswers withdraws e (edited withdraws e map edit .map) rest
+
+-- their answer numbers, in order: 0 done, 8 torn, withdrawn or not, or the refusal's
+abbrev pub editNumbers : Bool → Float → Tmesh → List Edit → List ℕ
+editNumbers withdraws e before edits = map answerNumber (editAnswers withdraws e before edits)
 
 -- two places of a file from which the same edits are read
 abbrev pub SameEdits : List ℕ → ℕ → ℕ → Type 0
 SameEdits bytes at other = (count : ℕ) → editsFrom count bytes at ≡ editsFrom count bytes other
 
--- ---- a file with so many edits
+-- ---- a file with so many edits, by its version
+abbrev pub fileWithdraws : List ℕ → Bool
+fileWithdraws bytes = withdrawsTorn (versionOf bytes)
+
 abbrev pub fileMap : Float → List ℕ → ℕ → Tmesh
-fileMap e bytes count = afterEdits e (freshMap bytes) (editsFrom count bytes editsAt)
+fileMap e bytes count = afterEdits (fileWithdraws bytes) e (freshMap bytes) (editsFrom count bytes editsAt)
+
+abbrev pub fileAnswers : Float → List ℕ → ℕ → List InsertAnswer
+fileAnswers e bytes count = editAnswers (fileWithdraws bytes) e (freshMap bytes) (editsFrom count bytes editsAt)
 
 abbrev pub fileNumbers : Float → List ℕ → ℕ → List ℕ
-fileNumbers e bytes count = editNumbers e (freshMap bytes) (editsFrom count bytes editsAt)
+fileNumbers e bytes count = editNumbers (fileWithdraws bytes) e (freshMap bytes) (editsFrom count bytes editsAt)
 
 -- ---- the set-point at (s, t)
 -- of a map

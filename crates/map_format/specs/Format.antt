@@ -2,12 +2,16 @@
 --
 --   at    bytes  what
 --   0     4      the count of all bytes that follow
---   4     1      the version, 1
+--   4     1      the version, 1 or 2
 --   5     8      the border weight
 --   13    4 × 24 the corners, anticlockwise from bottom left, three floats each
 --   109   n × 34 up to 1,000 edits
 --
 -- An edit: 1 byte the point, 1 byte the direction, 8 bytes the ratio, 24 bytes the position.
+--
+--   version  a torn edit
+--   1        stays
+--   2        is withdrawn
 use Prim.Native.Nat.{ℕ, zero, suc, _+_, _-_, _/_, _%_}
 use mathlib.Core.Bool.{Bool, true, cond, _&&_}
 use mathlib.Core.List.{List, [], _∷_}
@@ -30,9 +34,6 @@ lengthBytes = 4
 
 abbrev pub versionAt : ℕ
 versionAt = 4
-
-abbrev pub theVersion : ℕ
-theVersion = 1
 
 abbrev pub borderAt : ℕ
 borderAt = 5
@@ -61,6 +62,17 @@ ratioIn = 2
 
 abbrev pub positionIn : ℕ
 positionIn = 10
+
+-- ---- the versions
+abbrev pub versionOf : List ℕ → ℕ
+versionOf bytes = byteAt bytes versionAt
+
+abbrev pub isVersion : ℕ → Bool
+isVersion version = leb 1 version && leb version 2
+
+-- whether torn edits are withdrawn: from version 2 on
+abbrev pub withdrawsTorn : ℕ → Bool
+withdrawsTorn version = leb 2 version
 
 -- ---- what stands at a place
 abbrev pub positionAt : List ℕ → ℕ → Position
@@ -112,7 +124,7 @@ headingsRight (suc count) bytes at = ltb (byteAt bytes (at + directionIn)) 4 && 
 unfoldable pub checkedFile : List ℕ → FileCheck
 checkedFile bytes =
     cond (lengthRight bytes)
-    (cond (eqb (byteAt bytes versionAt) theVersion)
+    (cond (isVersion (versionOf bytes))
     (cond (headingsRight (editCount bytes) bytes editsAt) (Valid (editCount bytes)) (Refused Heading))
     (Refused Version))
     (Refused Length)
@@ -126,7 +138,7 @@ fileTold (Refused refusal) = refusalTold refusal
 abbrev pub whereValid : List ℕ → Told → Told
 whereValid bytes next =
     unless 12 (lengthRight bytes)
-    (unless 13 (eqb (byteAt bytes versionAt) theVersion)
+    (unless 13 (isVersion (versionOf bytes))
     (unless 14 (headingsRight (editCount bytes) bytes editsAt)
     next))
 

@@ -30,7 +30,7 @@ pub record Alike (one other : Tmesh) : Type 0 where
 -- ---- calls and answers without positions
 -- a call with the origin for an insertion's position
 abbrev pub withoutPosition : Call → Call
-withoutPosition (insertion con d ratio position) = insertion con d ratio origin
+withoutPosition (insertion withdraws con d ratio position) = insertion withdraws con d ratio origin
 withoutPosition (evaluation s t) = evaluation s t
 withoutPosition (question cell) = question cell
 

@@ -25,11 +25,11 @@ use Rattle.grid_index.specs.Index.{noKnots, knotsIn, cellOf}
 use Rattle.grid_index.specs.IndexLaws.{index-same}
 use Rattle.grid_index.specs.declared.Cell.{Cell}
 use Rattle.grid_index.specs.declared.Index.{Index}
-use Rattle.insertion.specs.Insert.{insertTold, insertPoint}
+use Rattle.insertion.specs.Insert.{insertTold, isRefused, insertPoint}
 use Rattle.insertion.specs.declared.insertion.InsertAnswer.{InsertAnswer}
 use Rattle.insertion.specs.declared.insertion.InsertAnswer.the-variants.{Done as Added, Torn, Refused as NotAdded}
 use Rattle.insertion.specs.declared.insertion.Inserted.{Inserted}
-use Rattle.t_mesh.specs.Insertion.{isRefused, afterInsertion, answered, addControlPoint}
+use Rattle.t_mesh.specs.Insertion.{afterInsertion, answered, addControlPoint}
 use Rattle.t_mesh.specs.Tmesh.{storeOf, isListed, newTmesh}
 use Rattle.t_mesh.specs.declared.t_mesh.Mesh.{Mesh}
 use Rattle.t_mesh.specs.declared.t_mesh.Position.{Position}

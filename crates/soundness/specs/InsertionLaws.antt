@@ -23,13 +23,12 @@ use Rattle.store.specs.Store.{storeSides, readSide}
 use Rattle.store.specs.declared.store.Store.{Store}
 use Rattle.mirror.specs.BoolLaws.{both-ways, cond-case}
 use Rattle.mirror.specs.Mirror.{MirrorOf, Sound}
-use Rattle.insertion.specs.Insert.{inUnit, checkedIntervals, checkedFacing, checkedSide, checked, placed, sought, isTorn, countedAnswer, firstSide, withFirst, secondSide, sided, passed, insertPoint}
+use Rattle.insertion.specs.Insert.{isRefused, inUnit, checkedIntervals, checkedFacing, checkedSide, checked, placed, sought, tears, countedAnswer, firstSide, withFirst, secondSide, sided, passed, insertPoint}
 use Rattle.insertion.specs.InsertLaws.{MayJoin, first-joins, second-joins}
 use Rattle.insertion.specs.declared.insertion.Checked.{Checked}
 use Rattle.insertion.specs.declared.insertion.InsertAnswer.{InsertAnswer}
 use Rattle.insertion.specs.declared.insertion.InsertAnswer.the-variants.{Done, Torn, Refused}
 use Rattle.insertion.specs.declared.insertion.Inserted.{Inserted}
-use Rattle.t_mesh.specs.Insertion.{isRefused}
 use Rattle.soundness.specs.AcrossLaws.{Sided, joins-connects, known-sought, sided-new}
 use Rattle.soundness.specs.KnownLaws.{Known, KnownFound}
 use Rattle.soundness.specs.PlacingLaws.{Across, across-clockwise, across-anti, Placed, near-succeeds, far-succeeds, placed-sound}
@@ -117,7 +116,7 @@ module _ (e : Float) (store : Store) (con p : ℕ) (d : TmeshDirection) (sound :
 -- done or torn, it is not 11
 answer-known : (e : Float) (store : Store) (con p : ℕ) (d : TmeshDirection) → KnownAnswer (sided e store con p d .answer)
 unfolding sided
-answer-known e store con p d = known-counted (isTorn (firstSide e store con p d) || isTorn (secondSide e store con p d)) _ _
+answer-known e store con p d = known-counted (tears (firstSide e store con p d) || tears (secondSide e store con p d)) _ _
 
 -- ---- the checks
 -- what holds of every refusal but 11, and of every point placed in a link of a made point, holds of an insertion

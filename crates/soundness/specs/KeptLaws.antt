@@ -15,7 +15,7 @@ use Rattle.control_point.specs.declared.t_mesh_direction.TmeshDirection.{TmeshD
 use Rattle.control_point.specs.declared.t_mesh_direction.TmeshDirection.the-variants.{Up, Right, Down, Left}
 use Rattle.grid.specs.Reach.{StartsF64}
 use Rattle.grid_index.specs.Index.{noKnots, knotsIn, indexOf}
-use Rattle.insertion.specs.Insert.{insertPoint}
+use Rattle.insertion.specs.Insert.{isRefused, insertPoint}
 use Rattle.insertion.specs.declared.insertion.InsertAnswer.{InsertAnswer}
 use Rattle.insertion.specs.declared.insertion.InsertAnswer.the-variants.{Done as Added, Torn, Refused as NotAdded}
 use Rattle.knot_vectors.specs.Knots.{AllKnots, all, none, allKnots, keeping, generateKnotVectors}
@@ -30,7 +30,7 @@ use Rattle.store.specs.TablesLaws.{refused-not}
 use Rattle.store.specs.declared.store.Store.{Store}
 use Rattle.surface.specs.Evaluation.{withKnots, subsOf}
 use Rattle.cells.specs.Cells.{cellPoints}
-use Rattle.t_mesh.specs.Insertion.{isRefused, afterInsertion, addControlPoint}
+use Rattle.t_mesh.specs.Insertion.{afterInsertion, addControlPoint}
 use Rattle.t_mesh.specs.Tmesh.{storeOf, isListed, blankKnots, newTmesh}
 use Rattle.t_mesh.specs.declared.t_mesh.Position.{Position}
 use Rattle.t_mesh.specs.declared.t_mesh.Tmesh.{Tmesh}

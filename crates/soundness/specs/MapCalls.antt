@@ -11,16 +11,15 @@ use Rattle.control_point.specs.Told.{Told, outcomeTold}
 use Rattle.control_point.specs.declared.t_mesh_direction.TmeshDirection.{TmeshDirection}
 use Rattle.store.specs.declared.store.Store.{Store}
 use Rattle.mirror.specs.Calls.{Call as Direct, make-loose, connect, remove-connection, remove-edge-condition, set-edge-con-weight, set-knot-coordinates, navigate-until-con, read-side, read-point, callStore, callTold}
-use Rattle.insertion.specs.Insert.{insertTold}
+use Rattle.insertion.specs.Insert.{insertTold, isDone}
 use Rattle.ray.specs.Knots.{pointKnotVectors, knotsTold}
 use Rattle.ray.specs.Ray.{castRay, castTold}
-use Rattle.t_mesh.specs.Insertion.{isDone}
 use Rattle.t_mesh.specs.Tmesh.{storeOf, withStore}
 use Rattle.t_mesh.specs.declared.t_mesh.Tmesh.{Tmesh}
 use Rattle.knot_vectors.specs.Knots.{generateKnotVectors}
 use Rattle.cells.specs.Cells.{cellTold}
 use Rattle.surface.specs.Evaluation.{evaluationTold}
-use Rattle.calls.specs.Calls.{Call, Answer, inserted, evaluated, questioned, answerTo, mapAfter}
+use Rattle.calls.specs.Calls.{Call, Answer, inserted, evaluated, questioned, withdraws, answerTo, mapAfter}
 
 -- an insertion, an evaluation or a question; the building of all knots; the knots of a point; a ray from a point into a buffer; a direct call
 pub data MapCall : Type 0 where
@@ -29,6 +28,14 @@ pub data MapCall : Type 0 where
   point-knot-vectors : ℕ → MapCall
   cast-ray : ℕ → TmeshDirection → List Float → MapCall
   direct : Direct → MapCall
+
+-- whether a call withdraws a torn insertion
+abbrev pub callWithdraws : MapCall → Bool
+callWithdraws (entry call) = withdraws call
+callWithdraws generate-knot-vectors = false
+callWithdraws (point-knot-vectors n) = false
+callWithdraws (cast-ray n d buffer) = false
+callWithdraws (direct call) = false
 
 -- the map after a call, with closeness e
 abbrev pub afterCall : Float → Tmesh → MapCall → Tmesh

@@ -15,13 +15,13 @@ use Rattle.control_point.specs.declared.t_mesh_direction.TmeshDirection.{TmeshD
 use Rattle.store.specs.declared.store.Store.{Store}
 use Rattle.mirror.specs.BoolLaws.{cond-case, and-both, or-case}
 use Rattle.mirror.specs.Mirror.{Sound}
-use Rattle.insertion.specs.Insert.{insertPoint}
+use Rattle.insertion.specs.Insert.{isDone, isRefused, insertPoint}
 use Rattle.insertion.specs.declared.insertion.InsertAnswer.{InsertAnswer}
 use Rattle.insertion.specs.declared.insertion.InsertAnswer.the-variants.{Done as Added, Torn, Refused as NotAdded}
 use Rattle.insertion.specs.declared.insertion.Inserted.{Inserted}
 use Rattle.ray.specs.Knots.{pointKnotVectors}
 use Rattle.ray.specs.declared.knots.PointKnots.{PointKnots}
-use Rattle.t_mesh.specs.Insertion.{isDone, isRefused, withPlaced, afterInsertion, addControlPoint}
+use Rattle.t_mesh.specs.Insertion.{withPlaced, afterInsertion, addControlPoint}
 use Rattle.t_mesh.specs.Tmesh.{meshStore, storeOf, isListed}
 use Rattle.t_mesh.specs.declared.t_mesh.Mesh.{Mesh}
 use Rattle.t_mesh.specs.declared.t_mesh.Position.{Position}

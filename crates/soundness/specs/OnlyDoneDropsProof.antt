@@ -2,13 +2,13 @@
 use mathlib.Core.Path.{_≡_, refl}
 use mathlib.Core.Bool.{Bool, true, false, true≢false}
 use lib.Ieee.{Float}
-use Rattle.insertion.specs.Insert.{insertPoint}
+use Rattle.insertion.specs.Insert.{isDone, insertPoint}
 use Rattle.insertion.specs.declared.insertion.InsertAnswer.{InsertAnswer}
 use Rattle.insertion.specs.declared.insertion.InsertAnswer.the-variants.{Done as Added, Torn, Refused}
 use Rattle.knot_vectors.specs.Knots.{AllKnots, all, none, allKnots, keeping, generateKnotVectors}
 use Rattle.knot_vectors.specs.declared.knots.Generated.{Generated}
 use Rattle.surface.specs.Evaluation.{withKnots, subsOf}
-use Rattle.t_mesh.specs.Insertion.{isDone, keptAfter, addControlPoint}
+use Rattle.t_mesh.specs.Insertion.{keptAfter, addControlPoint}
 use Rattle.t_mesh.specs.Tmesh.{storeOf, isListed}
 use Rattle.t_mesh.specs.declared.t_mesh.Tmesh.{Tmesh}
 use Rattle.cells.specs.Cells.{cellPoints}

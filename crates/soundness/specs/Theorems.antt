@@ -1,6 +1,6 @@
 -- Theorems on lists of calls on a map: statements only, with what they speak of. The lists are every list of insertions, evaluations, questions
 -- of cells, buildings of knots, rays and direct calls on a fresh map of any border weight and corners, with any closeness and any arguments, calls
--- refused or torn among them. Of the maps that they leave is said that links are mirrored and how they are counted, what is listed, that no
+-- refused, torn or withdrawn among them. Of the maps that they leave is said that links are mirrored and how they are counted, what is listed, that no
 -- connect of an insertion fails, and where 11 is answered; the call that is spoken of may have a closeness other than the list's.
 use Prim.Native.Nat.{ℕ, _<_, _*_}
 use mathlib.Core.Path.{_≡_}
@@ -26,12 +26,12 @@ use Rattle.control_point.specs.declared.t_mesh_control_point.Side.the-variants.
 use Rattle.store.specs.Store.{storeSides, withSideAt, connectPoints}
 use Rattle.store.specs.declared.store.Store.{Store}
 use Rattle.mirror.specs.Mirror.{Sound}
-use Rattle.insertion.specs.Insert.{insertTold, nearJoined, farJoined, placed, sought, firstSide, withFirst, secondSide, sided, insertPoint}
+use Rattle.insertion.specs.Insert.{insertTold, isRefused, nearJoined, farJoined, placed, sought, firstSide, withFirst, secondSide, sided, insertPoint}
 use Rattle.insertion.specs.declared.insertion.NewSide.{NewSide}
 use Rattle.insertion.specs.declared.insertion.NewSide.the-variants.{Takes, Joins, Opens, Tears, Stays}
 use Rattle.insertion.specs.declared.insertion.Inserted.{Inserted}
 use Rattle.search.specs.declared.search.Found.the-variants.{Failed}
-use Rattle.t_mesh.specs.Insertion.{isRefused, addControlPoint}
+use Rattle.t_mesh.specs.Insertion.{addControlPoint}
 use Rattle.t_mesh.specs.Tmesh.{storeOf, withStore, isListed, newTmesh}
 use Rattle.t_mesh.specs.declared.t_mesh.Position.{Position}
 use Rattle.t_mesh.specs.declared.t_mesh.Tmesh.{Tmesh}
@@ -40,7 +40,7 @@ use Rattle.surface.specs.declared.evaluation.EvaluationAnswer.the-variants.{Ref
 use Rattle.cells.specs.Cells.{cellPoints}
 use Rattle.cells.specs.declared.CellAnswer.the-variants.{Refused as NoWords}
 use Rattle.census.specs.Census.{sidesThat, countsOf}
-use Rattle.soundness.specs.MapCalls.{MapCall, generate-knot-vectors, direct, afterCall, mapAfterAll, directs, addsPoint, numberTo, pointsMade}
+use Rattle.soundness.specs.MapCalls.{MapCall, generate-knot-vectors, direct, callWithdraws, afterCall, mapAfterAll, directs, addsPoint, numberTo, pointsMade}
 
 -- ---- the maps
 -- what holds of the map after every list of calls on every fresh one
@@ -80,10 +80,10 @@ ListingGrows =
     → isListed (afterCall e map call) n ≡ ((addsPoint e map call && eqb n (storeOf map .made)) || isListed map n))
 
 -- ---- refusals
--- On every map: a call that is refused by any number but 8, torn, leaves the map as it was, the kept knots and their index too.
+-- On every map: a call that is refused leaves the map as it was, the kept knots and their index too; by 8, torn, where it withdraws torn insertions.
 abbrev pub RefusedKeepsMap : Type 0
 RefusedKeepsMap =
-    (e : Float) (map : Tmesh) (call : MapCall) → (numberTo e map call ≡ 0 → ⊥) → (numberTo e map call ≡ 8 → ⊥) → afterCall e map call ≡ map
+    (e : Float) (map : Tmesh) (call : MapCall) → (numberTo e map call ≡ 0 → ⊥) → (numberTo e map call ≡ 8 → callWithdraws call ≡ true) → afterCall e map call ≡ map
 
 -- ---- the kept knots and their index
 -- On every map: only an insertion done drops the kept knots and their index. Every other call, refused or not, leaves both kept, and they are

@@ -1,11 +1,13 @@
--- Insertion into a map (`add_control_point`). Refused, the map is as it was. Torn, the mesh keeps all that was done, p stands there
--- with its position and is not listed, and the kept knots and their index are kept. Done, p is listed and both are dropped.
+-- Insertion into a map. Refused, the map is as it was. Torn, the mesh keeps all that was done, p stands there with its position and is not listed, and the kept
+-- knots and their index are kept. Done, p is listed and both are dropped. So it is in the source (`add_control_point`). By the rule that withdraws torn
+-- insertions (`add_or_withdraw`) a torn one leaves the map as it was: the sides, the coordinates, the positions, the listing, the kept knots and their index.
 use Prim.Native.Nat.{ℕ}
 use mathlib.Core.Bool.{Bool, true, false, cond}
 use lib.Ieee.{Float}
 use lib.ListN.{set}
 use Rattle.control_point.specs.declared.t_mesh_direction.TmeshDirection.{TmeshDirection}
-use Rattle.insertion.specs.Insert.{insertPoint}
+use Rattle.insertion.specs.Insert.{isDone, isRefused, insertPoint}
+use Rattle.insertion.specs.Withdrawal.{unlessWithdrawn}
 use Rattle.insertion.specs.declared.insertion.Inserted.{Inserted}
 use Rattle.insertion.specs.declared.insertion.InsertAnswer.{InsertAnswer}
 use Rattle.insertion.specs.declared.insertion.InsertAnswer.the-variants.{Done, Torn, Refused}
@@ -16,18 +18,6 @@ use Rattle.t_mesh.specs.declared.t_mesh.Mesh.{Mesh}
 use Rattle.t_mesh.specs.declared.t_mesh.Tmesh.{Tmesh}
 use Rattle.t_mesh.specs.declared.add.Added.{Added}
 use Rattle.t_mesh.specs.declared.add.InsertedMesh.{InsertedMesh}
-
--- ---- what came of it
--- whether it is done, and whether it is refused; torn is neither
-abbrev pub isDone : InsertAnswer → Bool
-isDone (Done opened inferred) = true
-isDone (Torn opened inferred) = false
-isDone (Refused refusal) = false
-
-abbrev pub isRefused : InsertAnswer → Bool
-isRefused (Done opened inferred) = false
-isRefused (Torn opened inferred) = false
-isRefused (Refused refusal) = true
 
 -- ---- the mesh
 -- with the store after an insertion, which made the point n at a position and lists it or not
@@ -69,3 +59,17 @@ answered map position inserted = record { answer = inserted .answer; map = after
 -- towards direction d of the point con, at a ratio of the link there; e is the closeness
 unfoldable pub addControlPoint : Float → Tmesh → ℕ → TmeshDirection → Float → Position → Added
 addControlPoint e map con d ratio position = answered map position (insertPoint e (storeOf map) (isListed map con) con d ratio)
+
+-- ---- by either rule on torn ones
+abbrev pub addedBy : Bool → Tmesh → Added → Added
+addedBy withdraws map added = record { answer = added .answer; map = unlessWithdrawn withdraws (added .answer) map (added .map) }
+
+abbrev pub addByRule : Bool → Float → Tmesh → ℕ → TmeshDirection → Float → Position → Added
+addByRule withdraws e map con d ratio position = addedBy withdraws map (addControlPoint e map con d ratio position)
+
+-- as far as it is the mesh's
+abbrev pub meshBy : Bool → Mesh → InsertedMesh → InsertedMesh
+meshBy withdraws mesh inserted = record { answer = inserted .answer; mesh = unlessWithdrawn withdraws (inserted .answer) mesh (inserted .mesh) }
+
+abbrev pub meshByRule : Bool → Float → Mesh → ℕ → TmeshDirection → Float → Position → InsertedMesh
+meshByRule withdraws e mesh con d ratio position = meshBy withdraws mesh (insertIntoMesh e mesh con d ratio position)

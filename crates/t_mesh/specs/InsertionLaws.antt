@@ -8,7 +8,7 @@ use lib.Ieee.{Float}
 use lib.ListN.{length}
 use Rattle.control_point.specs.declared.t_mesh_control_point.TmeshControlPoint.{TmeshControlPoint}
 use Rattle.control_point.specs.declared.t_mesh_direction.TmeshDirection.{TmeshDirection}
-use Rattle.insertion.specs.Insert.{insertTold, insertPoint}
+use Rattle.insertion.specs.Insert.{insertTold, isDone, isRefused, insertPoint}
 use Rattle.insertion.specs.Table.{insertionTable}
 use Rattle.insertion.specs.TableLaws.{insertion-told}
 use Rattle.insertion.specs.LentLaws.{inserted-made}
@@ -16,7 +16,7 @@ use Rattle.insertion.specs.declared.insertion.InsertAnswer.{InsertAnswer}
 use Rattle.insertion.specs.declared.insertion.Inserted.{Inserted}
 use Rattle.lent_points.specs.LentLaws.{true-false}
 use Rattle.store.specs.declared.store.Store.{Store}
-use Rattle.t_mesh.specs.Insertion.{isDone, isRefused, withPlaced, answeredMesh, insertIntoMesh, keptAfter, addControlPoint}
+use Rattle.t_mesh.specs.Insertion.{withPlaced, answeredMesh, insertIntoMesh, keptAfter, addControlPoint}
 use Rattle.t_mesh.specs.Tmesh.{storeOf, isListed}
 use Rattle.t_mesh.specs.declared.add.Added.{Added}
 use Rattle.t_mesh.specs.declared.add.InsertedMesh.{InsertedMesh}

@@ -11,9 +11,9 @@ use Rattle.control_point.specs.PointLaws.{isMade-made, isMade-room, made-isMade
 use Rattle.control_point.specs.declared.t_mesh_control_point.TmeshControlPoint.{TmeshControlPoint}
 use Rattle.lent_points.specs.Lent.{lentPoints, Room, Held, FilledTo}
 use Rattle.lent_points.specs.LentLaws.{filled-none, filled-more, held-filled, PackedTo, packed-none, packed-more, held-packed}
-use Rattle.insertion.specs.Insert.{insertPoint}
+use Rattle.insertion.specs.Insert.{isRefused, insertPoint}
 use Rattle.insertion.specs.declared.insertion.Inserted.{Inserted}
-use Rattle.t_mesh.specs.Insertion.{isRefused, answeredMesh, insertIntoMesh}
+use Rattle.t_mesh.specs.Insertion.{answeredMesh, insertIntoMesh}
 use Rattle.t_mesh.specs.Tmesh.{meshStore, listedIn}
 use Rattle.t_mesh.specs.declared.t_mesh.Position.{Position}
 use Rattle.t_mesh.specs.InsertionLaws.{placed-made, mesh-refused, mesh-placed}

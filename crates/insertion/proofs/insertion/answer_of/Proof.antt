@@ -3,7 +3,7 @@ use native.Mathlib.Omega.{arith}
 use Prim.Native.Nat.{_+_}
 use mathlib.Core.Bool.{Bool, true, false, _||_}
 use mathlib.Core.Path.{_≡_, _∙_, sym}
-use Rattle.insertion.specs.Insert.{isTorn, countedAnswer, answerOf}
+use Rattle.insertion.specs.Insert.{tears, countedAnswer, answerOf}
 use borrow.Author.Needs.{needs}
 use Rattle.insertion.proofs.insertion.answer_of.Statement.{statement}
 use Rattle.insertion.proofs.insertion.answer_of.Tie as tie
@@ -31,32 +31,32 @@ add-inferred c =
     let a = c .before .before .before .before .args in
     omega (arith, inferred-few (a .first), inferred-few (a .second))
 
-is-torn-requires : tie.Need-is-torn-requires
-is-torn-requires c κs = search needs
+tears-requires : tie.Need-tears-requires
+tears-requires c κs = search needs
 
 -- the counts are the two sides'
 counts : (c : tie.After-inferred-count2) (torn : Bool) → let a = c .before .before .before .before .args in
-    isTorn (a .first) || isTorn (a .second) ≡ torn
+    tears (a .first) || tears (a .second) ≡ torn
     → countedAnswer torn (c .before .before .before .opened-count .result + c .before .before .opened-count2 .result) (c .before .inferred-count .result + c .inferred-count2 .result) ≡ answerOf (a .first) (a .second)
 counts c torn h =
     let o = c .before .before in
     rw (h, c .inferred-count2 .ensures, c .before .inferred-count .ensures, o .opened-count2 .ensures, o .before .opened-count .ensures)
 
 returns : tie.Need-returns
-returns c = counts (c .before .before) true (rw (sym (c .before .is-torn .ensures) ∙ c .if1 .taken))
+returns c = counts (c .before .before) true (rw (sym (c .before .tears .ensures) ∙ c .if1 .taken))
 
-is-torn-requires-2 : tie.Need-is-torn-requires-2
-is-torn-requires-2 c κs = search needs
+tears-requires-2 : tie.Need-tears-requires-2
+tears-requires-2 c κs = search needs
 
 returns-2 : tie.Need-returns-2
 returns-2 c =
     let t = c .before .before in
-    counts (t .before .before) true (rw (sym (t .before .is-torn .ensures) ∙ t .if1 .left, sym (c .before .is-torn2 .ensures) ∙ c .if2 .taken))
+    counts (t .before .before) true (rw (sym (t .before .tears .ensures) ∙ t .if1 .left, sym (c .before .tears2 .ensures) ∙ c .if2 .taken))
 
 returns-3 : tie.Need-returns-3
 returns-3 c =
     let t = c .before .before in
-    counts (t .before .before) false (rw (sym (t .before .is-torn .ensures) ∙ t .if1 .left, sym (c .before .is-torn2 .ensures) ∙ c .if2 .left))
+    counts (t .before .before) false (rw (sym (t .before .tears .ensures) ∙ t .if1 .left, sym (c .before .tears2 .ensures) ∙ c .if2 .left))
 
 pub answer-of-spec : {M : Type 1} → statement M
 answer-of-spec =
@@ -68,8 +68,8 @@ answer-of-spec =
     inferred-count-requires
     inferred-count-requires-2
     add-inferred
-    is-torn-requires
+    tears-requires
     returns
-    is-torn-requires-2
+    tears-requires-2
     returns-2
     returns-3)

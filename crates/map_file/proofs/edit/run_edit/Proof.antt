@@ -8,13 +8,13 @@ use denote.Ref.{now}
 use lib.Ieee.{Float}
 use lib.ListN.{length-set}
 use Rattle.control_point.specs.Small.{millionth}
+use Rattle.insertion.specs.Insert.{isRefused}
 use Rattle.insertion.specs.Lent.{Inserts}
 use Rattle.lent_mesh.specs.InsertionLaws.{InsertsIntoMesh, lent-inserts}
 use Rattle.lent_mesh.specs.LentMesh.{rowOf}
 use Rattle.lent_points.specs.Lent.{Points, lentPoints}
 use Rattle.map_format.specs.Format.{Edit, editAt, targetOf}
 use Rattle.map_format.specs.declared.format.EditTarget.{EditTarget}
-use Rattle.t_mesh.specs.Insertion.{isRefused}
 use Rattle.t_mesh.specs.Tmesh.{listedIn}
 use Rattle.map_file.proofs.edit.run_edit.Statement.{statement}
 use Rattle.map_file.proofs.edit.run_edit.Tie as tie

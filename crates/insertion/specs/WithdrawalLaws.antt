@@ -1,0 +1,50 @@
+-- Laws of the rule on torn insertions: what is not withdrawn is what it is, and of what is withdrawn, the points before it hold the store.
+use Prim.Native.Nat.{ℕ}
+use mathlib.Core.Path.{_≡_, refl, sym, ap, _∙_, subst}
+use mathlib.Core.Bool.{Bool, true, false, cond, true≢false}
+use lib.Ieee.{Float}
+use Rattle.control_point.specs.declared.t_mesh_direction.TmeshDirection.{TmeshDirection}
+use Rattle.lent_points.specs.Lent.{Points, Held}
+use Rattle.insertion.specs.Insert.{isDone, isTorn, isRefused, insertPoint}
+use Rattle.insertion.specs.Lent.{Inserts}
+use Rattle.insertion.specs.Withdrawal.{isWithdrawn, leavesPoint, InsertsBy}
+use Rattle.insertion.specs.declared.insertion.InsertAnswer.{InsertAnswer}
+use Rattle.insertion.specs.declared.insertion.InsertAnswer.the-variants.{Done, Torn, Refused}
+
+-- ---- which are withdrawn
+-- one that is not torn is not, by either rule
+pub untorn-stands : (withdraws : Bool) (answer : InsertAnswer) → isTorn answer ≡ false → isWithdrawn withdraws answer ≡ false
+untorn-stands true answer untorn = untorn
+untorn-stands false answer untorn = refl
+
+pub withdrawn-torn : (withdraws : Bool) (answer : InsertAnswer) → isWithdrawn withdraws answer ≡ true → isTorn answer ≡ true
+withdrawn-torn true answer withdrawn = withdrawn
+withdrawn-torn false answer withdrawn = absurd (true≢false (sym withdrawn))
+
+-- torn, it is neither done nor refused
+pub torn-not-done : (answer : InsertAnswer) → isTorn answer ≡ true → isDone answer ≡ false
+torn-not-done (Done opened inferred) torn = torn
+torn-not-done (Torn opened inferred) torn = refl
+torn-not-done (Refused refusal) torn = refl
+
+-- one whose point stands is neither refused nor withdrawn
+pub leaves-tells : (withdraws : Bool) (answer : InsertAnswer) → leavesPoint withdraws answer ≡ true → (isRefused answer ≡ false) × (isWithdrawn withdraws answer ≡ false)
+leaves-tells withdraws (Done opened inferred) leaves = (refl, untorn-stands withdraws (Done opened inferred) refl)
+leaves-tells true (Torn opened inferred) leaves = absurd (true≢false (sym leaves))
+leaves-tells false (Torn opened inferred) leaves = (refl, refl)
+leaves-tells withdraws (Refused refusal) leaves = absurd (true≢false (sym leaves))
+
+-- ---- into lent points
+module _ (withdraws : Bool) (e : Float) (points after : Points) (made : ℕ) (listed : Bool) (con : ℕ) (d : TmeshDirection) (ratio : Float) (answer : InsertAnswer)
+    (inserts : Inserts e points made listed con d ratio answer after) where
+  pub inserts-standing : isWithdrawn withdraws answer ≡ false → InsertsBy withdraws e points made listed con d ratio answer after
+  inserts-standing stands rest store held is =
+      let a = inserts rest store held is in
+      let result = insertPoint e store listed con d ratio in
+      (a .0, subst (λ (b : Bool). Held after rest (cond b store (result .store))) (sym (ap (isWithdrawn withdraws) (sym (a .0)) ∙ stands)) (a .1))
+
+  pub inserts-withdrawn : isWithdrawn withdraws answer ≡ true → InsertsBy withdraws e points made listed con d ratio answer points
+  inserts-withdrawn withdrawn rest store held is =
+      let a = inserts rest store held is in
+      let result = insertPoint e store listed con d ratio in
+      (a .0, subst (λ (b : Bool). Held points rest (cond b store (result .store))) (sym (ap (isWithdrawn withdraws) (sym (a .0)) ∙ withdrawn)) held)
