@@ -7,7 +7,7 @@ use Rattle.control_point.specs.declared.t_mesh_direction.TmeshDirection.{TmeshD
 use Rattle.lent_points.specs.Lent.{Points, Held}
 use Rattle.insertion.specs.Insert.{isDone, isTorn, isRefused, insertPoint}
 use Rattle.insertion.specs.Lent.{Inserts}
-use Rattle.insertion.specs.Withdrawal.{isWithdrawn, leavesPoint, InsertsBy}
+use Rattle.insertion.specs.Withdrawal.{isWithdrawn, unlessWithdrawn, leavesPoint, InsertsBy}
 use Rattle.insertion.specs.declared.insertion.InsertAnswer.{InsertAnswer}
 use Rattle.insertion.specs.declared.insertion.InsertAnswer.the-variants.{Done, Torn, Refused}
 
@@ -27,12 +27,33 @@ torn-not-done (Done opened inferred) torn = torn
 torn-not-done (Torn opened inferred) torn = refl
 torn-not-done (Refused refusal) torn = refl
 
--- one whose point stands is neither refused nor withdrawn
-pub leaves-tells : (withdraws : Bool) (answer : InsertAnswer) → leavesPoint withdraws answer ≡ true → (isRefused answer ≡ false) × (isWithdrawn withdraws answer ≡ false)
-leaves-tells withdraws (Done opened inferred) leaves = (refl, untorn-stands withdraws (Done opened inferred) refl)
-leaves-tells true (Torn opened inferred) leaves = absurd (true≢false (sym leaves))
-leaves-tells false (Torn opened inferred) leaves = (refl, refl)
-leaves-tells withdraws (Refused refusal) leaves = absurd (true≢false (sym leaves))
+-- ---- one whose point stands
+pub leaves-not-refused : (withdraws : Bool) (answer : InsertAnswer) → leavesPoint withdraws answer ≡ true → isRefused answer ≡ false
+leaves-not-refused withdraws (Done opened inferred) leaves = refl
+leaves-not-refused withdraws (Torn opened inferred) leaves = refl
+leaves-not-refused withdraws (Refused refusal) leaves = sym leaves
+
+module _ {A : Type 0} (withdraws : Bool) (answer : InsertAnswer) (before after : A) where
+  -- what it left stands
+  pub leaves-stands : leavesPoint withdraws answer ≡ true → unlessWithdrawn withdraws answer before after ≡ after
+  leaves-stands leaves = by-rule withdraws answer leaves
+    where
+      by-rule : (rule : Bool) (a : InsertAnswer) → leavesPoint rule a ≡ true → unlessWithdrawn rule a before after ≡ after
+      by-rule false a leaves = refl
+      by-rule true (Done opened inferred) leaves = refl
+      by-rule true (Torn opened inferred) leaves = absurd (true≢false (sym leaves))
+      by-rule true (Refused refusal) leaves = refl
+
+  -- where none stands, all is as before, if a refusal leaves it so
+  pub none-stands : (isRefused answer ≡ true → after ≡ before) → leavesPoint withdraws answer ≡ false → unlessWithdrawn withdraws answer before after ≡ before
+  none-stands refused none = by-rule withdraws answer refused none
+    where
+      by-rule : (rule : Bool) (a : InsertAnswer) → (isRefused a ≡ true → after ≡ before) → leavesPoint rule a ≡ false → unlessWithdrawn rule a before after ≡ before
+      by-rule rule (Done opened inferred) refused none = absurd (true≢false none)
+      by-rule true (Torn opened inferred) refused none = refl
+      by-rule false (Torn opened inferred) refused none = absurd (true≢false none)
+      by-rule true (Refused refusal) refused none = refused refl
+      by-rule false (Refused refusal) refused none = refused refl
 
 -- ---- into lent points
 module _ (withdraws : Bool) (e : Float) (points after : Points) (made : ℕ) (listed : Bool) (con : ℕ) (d : TmeshDirection) (ratio : Float) (answer : InsertAnswer)

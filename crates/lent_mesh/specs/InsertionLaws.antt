@@ -1,5 +1,5 @@
--- Laws of an insertion into a lent mesh: points that hold a mesh before it hold, after it, the mesh that it leaves. Refused, nothing else
--- changes; else the new point's position and whether it is listed stand under its number.
+-- Laws of an insertion into a lent mesh, by either rule on torn ones: points that hold a mesh before it hold, after it, the mesh that it leaves. Where it leaves no
+-- point, nothing else changes; else the new point's position and whether it is listed stand under its number.
 use Prim.Native.Nat.{ℕ, _+_, _<_}
 use mathlib.Core.Path.{_≡_, refl, sym, ap, _∙_, subst}
 use mathlib.Core.Bool.{Bool, true, false}
@@ -14,13 +14,14 @@ use Rattle.control_point.specs.declared.t_mesh_control_point.TmeshControlPoint.
 use Rattle.control_point.specs.declared.t_mesh_direction.TmeshDirection.{TmeshDirection}
 use Rattle.insertion.specs.Insert.{isDone, isRefused, insertPoint}
 use Rattle.insertion.specs.InsertLaws.{refused-same}
-use Rattle.insertion.specs.Lent.{Inserts}
+use Rattle.insertion.specs.Withdrawal.{unlessWithdrawn, leavesPoint, storeBy, InsertsBy}
+use Rattle.insertion.specs.WithdrawalLaws.{none-stands, leaves-stands, leaves-not-refused}
 use Rattle.insertion.specs.declared.insertion.InsertAnswer.{InsertAnswer}
 use Rattle.insertion.specs.declared.insertion.InsertAnswer.the-variants.{Done, Torn, Refused}
 use Rattle.insertion.specs.declared.insertion.Inserted.{Inserted}
 use Rattle.lent_points.specs.Lent.{Points, Held}
 use Rattle.lent_points.specs.LentLaws.{true-false}
-use Rattle.t_mesh.specs.Insertion.{insertIntoMesh}
+use Rattle.t_mesh.specs.Insertion.{insertIntoMesh, meshByRule}
 use Rattle.t_mesh.specs.InsertionLaws.{placed-made, mesh-refused, mesh-placed}
 use Rattle.t_mesh.specs.Tmesh.{meshStore, listedIn, origin}
 use Rattle.t_mesh.specs.declared.add.InsertedMesh.{InsertedMesh}
@@ -57,48 +58,60 @@ module _ (positions : List (List Float)) (room : length positions ≡ 128) (n : 
           ∙ sym (ap rowPosition (getD-set-other positions n m (rowOf position) [] (eqb-false m n x)))
 
 -- ---- an insertion
--- what an insertion into points is to the mesh that they held: the answer is the mesh's; refused, they hold the mesh that it leaves; else there
+-- what an insertion into points is to the mesh that they held: the answer is the mesh's; where it leaves no point, they hold the mesh that it leaves; else there
 -- was room for the new point, and with its row and whether it is listed they hold that mesh
-pub record InsertsIntoMesh (e : Float) (points : Points) (made : ℕ) (positions : List (List Float)) (listed : List Bool) (con : ℕ) (d : TmeshDirection) (ratio : Float) (position : Position) (answer : InsertAnswer) (after : Points) : Type 0 where
-  pub answered : answer ≡ insertIntoMesh e (meshOver points made positions listed) con d ratio position .answer
-  pub refused : isRefused answer ≡ true → meshOver after made positions listed ≡ insertIntoMesh e (meshOver points made positions listed) con d ratio position .mesh
-  pub room : isRefused answer ≡ false → made < 128
-  pub placed : isRefused answer ≡ false → length positions ≡ 128 → (row : List Float) → row ≡ rowOf position → (done : Bool) → done ≡ isDone answer
-      → meshOver after (made + 1) (set positions made row) (set listed made done) ≡ insertIntoMesh e (meshOver points made positions listed) con d ratio position .mesh
+pub record InsertsIntoMesh (withdraws : Bool) (e : Float) (points : Points) (made : ℕ) (positions : List (List Float)) (listed : List Bool) (con : ℕ) (d : TmeshDirection) (ratio : Float) (position : Position) (answer : InsertAnswer) (after : Points) : Type 0 where
+  pub answered : answer ≡ meshByRule withdraws e (meshOver points made positions listed) con d ratio position .answer
+  pub kept : leavesPoint withdraws answer ≡ false → meshOver after made positions listed ≡ meshByRule withdraws e (meshOver points made positions listed) con d ratio position .mesh
+  pub room : leavesPoint withdraws answer ≡ true → made < 128
+  pub placed : leavesPoint withdraws answer ≡ true → length positions ≡ 128 → (row : List Float) → row ≡ rowOf position → (done : Bool) → done ≡ isDone answer
+      → meshOver after (made + 1) (set positions made row) (set listed made done) ≡ meshByRule withdraws e (meshOver points made positions listed) con d ratio position .mesh
 
-module _ (e : Float) (points : Points) (made : ℕ) (positions : List (List Float)) (listed : List Bool) (con : ℕ) (d : TmeshDirection) (ratio : Float) (position : Position) (answer : InsertAnswer) (after : Points)
-    (inserts : Inserts e points made (listedIn listed con) con d ratio answer after) where
+module _ (withdraws : Bool) (e : Float) (points : Points) (made : ℕ) (positions : List (List Float)) (listed : List Bool) (con : ℕ) (d : TmeshDirection) (ratio : Float) (position : Position) (answer : InsertAnswer) (after : Points)
+    (inserts : InsertsBy withdraws e points made (listedIn listed con) con d ratio answer after) where
   abbrev mesh : Mesh
   mesh = meshOver points made positions listed
 
   abbrev inserted : Inserted
   inserted = insertPoint e (meshStore mesh) (listedIn listed con) con d ratio
 
-  held-after : (answer ≡ inserted .answer) × Held after loosePoints (inserted .store)
+  held-after : (answer ≡ inserted .answer) × Held after loosePoints (storeBy withdraws (meshStore mesh) inserted)
   held-after = inserts loosePoints (meshStore mesh) (mesh-held points made positions listed) refl
 
+  -- ---- no point stands
   store-kept : (a : InsertAnswer) → a ≡ inserted .answer → isRefused a ≡ true → inserted .store ≡ meshStore mesh
   store-kept (Refused refusal) is h = refused-same e (meshStore mesh) (listedIn listed con) con d ratio refusal (sym is)
   store-kept (Done opened inferred) is h = absurd (true-false (sym h))
   store-kept (Torn opened inferred) is h = absurd (true-false (sym h))
 
-  mesh-kept : isRefused answer ≡ true → meshOver after made positions listed ≡ insertIntoMesh e mesh con d ratio position .mesh
+  mesh-kept : leavesPoint withdraws answer ≡ false → meshOver after made positions listed ≡ meshByRule withdraws e mesh con d ratio position .mesh
   unfolding insertIntoMesh
-  mesh-kept refused =
+  mesh-kept none =
+      let none-left = ap (leavesPoint withdraws) (sym (held-after .0)) ∙ none in
       ap (λ (list : List TmeshControlPoint). record { points = list; made = made; positions = mesh .positions; listed = listed })
       (held-same after loosePoints (meshStore (meshOver after made positions listed)) (meshStore mesh) refl
       (mesh-held after made positions listed)
-      (subst (Held after loosePoints) (store-kept answer (held-after .0) refused) (held-after .1)))
-      ∙ ap (λ (x : InsertedMesh). x .mesh) (mesh-refused mesh position answer inserted (held-after .0) refused)
+      (subst (Held after loosePoints) (none-stands withdraws (inserted .answer) (meshStore mesh) (inserted .store) (store-kept (inserted .answer) refl) none-left) (held-after .1)))
+      ∙ sym
+      (none-stands withdraws (inserted .answer) mesh (insertIntoMesh e mesh con d ratio position .mesh)
+      (λ refused. ap (λ (x : InsertedMesh). x .mesh) (sym (mesh-refused mesh position (inserted .answer) inserted refl refused)))
+      none-left)
 
-  one-more : isRefused answer ≡ false → (made < 128) × (inserted .store .made ≡ made + 1)
-  one-more stands = placed-made e (meshStore mesh) (mesh-held points made positions listed .room) (listedIn listed con) con d ratio answer (held-after .0) stands
+  -- ---- its point stands
+  one-more : leavesPoint withdraws answer ≡ true → (made < 128) × (inserted .store .made ≡ made + 1)
+  one-more stands =
+      placed-made e (meshStore mesh) (mesh-held points made positions listed .room) (listedIn listed con) con d ratio answer (held-after .0)
+      (leaves-not-refused withdraws answer stands)
+
+  -- so what the insertion left stands
+  left : {A : Type 0} (before then : A) → leavesPoint withdraws answer ≡ true → unlessWithdrawn withdraws (inserted .answer) before then ≡ then
+  left before then stands = leaves-stands withdraws (inserted .answer) before then (ap (leavesPoint withdraws) (sym (held-after .0)) ∙ stands)
 
   abbrev more : Mesh
   more = meshOver after (made + 1) (set positions made (rowOf position)) (set listed made (isDone answer))
 
-  mesh-more : isRefused answer ≡ false → length positions ≡ 128 → (row : List Float) → row ≡ rowOf position → (done : Bool) → done ≡ isDone answer
-      → meshOver after (made + 1) (set positions made row) (set listed made done) ≡ insertIntoMesh e mesh con d ratio position .mesh
+  mesh-more : leavesPoint withdraws answer ≡ true → length positions ≡ 128 → (row : List Float) → row ≡ rowOf position → (done : Bool) → done ≡ isDone answer
+      → meshOver after (made + 1) (set positions made row) (set listed made done) ≡ meshByRule withdraws e mesh con d ratio position .mesh
   unfolding insertIntoMesh
   mesh-more stands full row at-row done listing =
       ap (λ (r : List Float). meshOver after (made + 1) (set positions made r) (set listed made done)) at-row
@@ -106,12 +119,13 @@ module _ (e : Float) (points : Points) (made : ℕ) (positions : List (List Floa
       ∙ ap (λ (places : List Position). record { points = more .points; made = made + 1; positions = places; listed = more .listed })
       (sym (position-stored positions full made (one-more stands .0) position))
       ∙ ap (λ (x : InsertedMesh). x .mesh)
-      (mesh-placed mesh position (more .points) (made + 1) answer (isDone answer) inserted (held-after .0) stands
+      (mesh-placed mesh position (more .points) (made + 1) answer (isDone answer) inserted (held-after .0) (leaves-not-refused withdraws answer stands)
       (held-same after loosePoints (meshStore more) (inserted .store) (sym (one-more stands .1))
       (mesh-held after (made + 1) (set positions made (rowOf position)) (more .listed))
-      (held-after .1))
+      (subst (Held after loosePoints) (left (meshStore mesh) (inserted .store) stands) (held-after .1)))
       (sym (one-more stands .1)) refl)
+      ∙ sym (left mesh (insertIntoMesh e mesh con d ratio position .mesh) stands)
 
-  pub lent-inserts : InsertsIntoMesh e points made positions listed con d ratio position answer after
+  pub lent-inserts : InsertsIntoMesh withdraws e points made positions listed con d ratio position answer after
   unfolding insertIntoMesh
-  lent-inserts = record { answered = held-after .0; refused = mesh-kept; room = λ stands. one-more stands .0; placed = mesh-more }
+  lent-inserts = record { answered = held-after .0; kept = mesh-kept; room = λ stands. one-more stands .0; placed = mesh-more }

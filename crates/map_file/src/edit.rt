@@ -7,14 +7,14 @@ ghost use Rattle.map_format.specs.Format.{editBytes, editAt};
 ghost use Rattle.map_file.specs.Run.{meshEdited, SameEdits};
 use control_point::small::closeness;
 use insertion::insertion::InsertAnswer;
-use lent_insertion::insert_point;
+use insertion::insertion::is_done;
 use lent_mesh::lent_listed;
 use lent_mesh::row_of;
 use map_format::format::EDIT_BYTES;
 use map_format::format::edit_position;
 use map_format::reader::target_from;
-use t_mesh::add::is_done;
-use t_mesh::add::is_refused;
+use withdrawal::insert_by_rule;
+use withdrawal::leaves_point;
 
 // Where the next edit is read. Past the file's end every edit reads the same.
 pub fn next_place(file: &[u8], at: usize) -> usize
@@ -23,8 +23,9 @@ pub fn next_place(file: &[u8], at: usize) -> usize
     if at < file.len() { at + EDIT_BYTES } else { at }
 }
 
-// The edit at a place. Its position is read only where it makes a point.
+// The edit at a place, where torn edits are withdrawn or are not. Its position is read only where it leaves a point.
 pub fn run_edit(
+    withdraws: bool,
     file: &[u8],
     at: usize,
     kinds: &mut [u8; 512],
@@ -36,11 +37,11 @@ pub fn run_edit(
     listed: &mut [bool; 128],
 ) -> InsertAnswer
     requires { ⌜ MeshRoom (now kinds) (now numbers) (now intervals) (now coordinates) (now positions) (now listed) ⌝ }
-    ensures answer { λ r. ⌜ r ≡ meshEdited millionth
+    ensures answer { λ r. ⌜ r ≡ meshEdited withdraws millionth
         (lentMesh (now (kinds .entry)) (now (numbers .entry)) (now (intervals .entry)) (now (coordinates .entry)) (now (made .entry)) (now (positions .entry)) (now (listed .entry)))
         (editAt (now (file .entry)) at) .answer ⌝ }
     ensures mesh { λ _. ⌜ lentMesh (now (kinds .exit)) (now (numbers .exit)) (now (intervals .exit)) (now (coordinates .exit)) (now (made .exit)) (now (positions .exit)) (now (listed .exit))
-        ≡ meshEdited millionth
+        ≡ meshEdited withdraws millionth
         (lentMesh (now (kinds .entry)) (now (numbers .entry)) (now (intervals .entry)) (now (coordinates .entry)) (now (made .entry)) (now (positions .entry)) (now (listed .entry)))
         (editAt (now (file .entry)) at) .mesh ⌝ }
     ensures room { λ _. ⌜ MeshRoom (now (kinds .exit)) (now (numbers .exit)) (now (intervals .exit)) (now (coordinates .exit)) (now (positions .exit)) (now (listed .exit)) ⌝ }
@@ -48,7 +49,8 @@ pub fn run_edit(
     let p = *made;
     let target = target_from(file, at);
     let direction = target.direction;
-    let answer = insert_point(
+    let answer = insert_by_rule(
+        withdraws,
         closeness(),
         kinds,
         numbers,
@@ -60,7 +62,7 @@ pub fn run_edit(
         direction,
         target.ratio,
     );
-    if is_refused(answer) {
+    if !leaves_point(withdraws, answer) {
         return answer;
     }
     positions[p as usize] = row_of(edit_position(file, at));

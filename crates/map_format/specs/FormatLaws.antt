@@ -15,7 +15,7 @@ use Rattle.big_endian.specs.BigEndianLaws.{number-after}
 use Rattle.control_point.specs.Told.{Told, unless, refusalTold}
 use Rattle.control_point.specs.declared.refusal.Refusal.{Refusal}
 use Rattle.control_point.specs.declared.refusal.Refusal.the-variants.{Length, Version, Heading}
-use Rattle.map_format.specs.Format.{lengthBytes, versionAt, theVersion, editsAt, editBytes, mostEdits, directionIn, positionAt, editAt, targetOf, editCount, lengthRight, headingsRight, checkedFile, fileTold, whereValid, fileTable}
+use Rattle.map_format.specs.Format.{lengthBytes, editsAt, editBytes, mostEdits, directionIn, versionOf, isVersion, positionAt, editAt, targetOf, editCount, lengthRight, headingsRight, checkedFile, fileTold, whereValid, fileTable}
 use Rattle.map_format.specs.declared.format.FileCheck.{FileCheck}
 use Rattle.map_format.specs.declared.format.FileCheck.the-variants.{Valid, Refused}
 
@@ -64,7 +64,7 @@ valid-right false second third other last count n valid = absurd (never Length n
 pub valid-tells : (bytes : List ℕ) (n : ℕ) → checkedFile bytes ≡ Valid n → (editsAt + n * editBytes ≡ length bytes) × (n ≤ mostEdits)
 unfolding checkedFile
 valid-tells bytes n valid =
-    let right = valid-right (lengthRight bytes) (eqb (byteAt bytes versionAt) theVersion) (headingsRight (editCount bytes) bytes editsAt) Version Heading (editCount bytes) n valid in
+    let right = valid-right (lengthRight bytes) (isVersion (versionOf bytes)) (headingsRight (editCount bytes) bytes editsAt) Version Heading (editCount bytes) n valid in
     let tells = length-tells bytes (right .0) in
     (ap (λ (count : ℕ). editsAt + count * editBytes) (sym (right .1)) ∙ tells .1, omega (arith, tells .2, right .1))
 
@@ -89,7 +89,7 @@ heading-wrong count bytes at some wrong = sym (heading-first count bytes at some
 pub where-valid-told : (bytes : List ℕ) (told : FileCheck → Told) → ((refusal : Refusal) → told (Refused refusal) ≡ refusalTold refusal)
     → told (checkedFile bytes) ≡ whereValid bytes (told (Valid (editCount bytes)))
 unfolding checkedFile
-where-valid-told bytes told refused = by-tests (lengthRight bytes) (eqb (byteAt bytes versionAt) theVersion) (headingsRight (editCount bytes) bytes editsAt)
+where-valid-told bytes told refused = by-tests (lengthRight bytes) (isVersion (versionOf bytes)) (headingsRight (editCount bytes) bytes editsAt)
   where
     by-tests : (long version headings : Bool)
         → told (cond long (cond version (cond headings (Valid (editCount bytes)) (Refused Heading)) (Refused Version)) (Refused Length))

@@ -1,7 +1,7 @@
 // What the bytes of a map file say, and which files are refused. The places and sizes are those of docs/FORMATS.md.
 ghost use mathlib.Core.Path.{_≡_};
 ghost use Prim.Native.Nat.{_≤_};
-ghost use Rattle.map_format.specs.Format.{editsAt, mostEdits, positionAt, editAt, targetOf, lengthRight, headingsRight, checkedFile, fileTold, fileTable};
+ghost use Rattle.map_format.specs.Format.{editsAt, mostEdits, versionOf, isVersion, withdrawsTorn, positionAt, editAt, targetOf, lengthRight, headingsRight, checkedFile, fileTold, fileTable};
 use big_endian::after;
 use big_endian::byte_at;
 use big_endian::float_at;
@@ -14,7 +14,12 @@ const LENGTH_BYTES: usize = 4;
 
 const VERSION_AT: usize = 4;
 
-const THE_VERSION: u8 = 1;
+const FIRST_VERSION: u8 = 1;
+
+const LAST_VERSION: u8 = 2;
+
+// From this version on torn edits are withdrawn.
+const WITHDRAWING_VERSION: u8 = 2;
 
 pub const BORDER_AT: usize = 5;
 
@@ -48,6 +53,25 @@ pub enum FileCheck {
     // The count of edits.
     Valid(usize),
     Refused(Refusal),
+}
+
+fn version_of(file: &[u8]) -> u8
+    ensures { λ r. ⌜ r ≡ versionOf (now (file .entry)) ⌝ }
+{
+    byte_at(file, VERSION_AT)
+}
+
+fn is_version(version: u8) -> bool
+    ensures { λ r. ⌜ r ≡ isVersion version ⌝ }
+{
+    FIRST_VERSION <= version && version <= LAST_VERSION
+}
+
+// Whether the torn edits of a file are withdrawn.
+pub fn withdraws_torn(file: &[u8]) -> bool
+    ensures { λ r. ⌜ r ≡ withdrawsTorn (versionOf (now (file .entry))) ⌝ }
+{
+    WITHDRAWING_VERSION <= version_of(file)
 }
 
 // The position at a place. Past the end zeros are read: `validate` stands before it.
@@ -127,7 +151,7 @@ pub fn validate(file: &[u8]) -> FileCheck
     if !length_right(file) {
         return FileCheck::Refused(Refusal::Length);
     }
-    if byte_at(file, VERSION_AT) != THE_VERSION {
+    if !is_version(version_of(file)) {
         return FileCheck::Refused(Refusal::Version);
     }
     let count = (file.len() - EDITS_AT) / EDIT_BYTES;

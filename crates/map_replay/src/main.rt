@@ -30,6 +30,7 @@ use knot_vectors::knots::generate_knot_vectors;
 use lent_surface::lend;
 use lent_surface::lent_value;
 use map_insertion::add_control_point;
+use map_insertion::add_or_withdraw;
 use openings::openings::openings;
 use ray::knots::point_knot_vectors;
 use ray::ray::cast_ray;
@@ -43,9 +44,11 @@ use stored_calls::call::replay_call;
 use stored_calls::points::both;
 use stored_ledger::DIRECT;
 use stored_ledger::INSERTION;
+use stored_ledger::WITHDRAWING;
 use stored_ledger::ledger_holds;
 use stored_ledger::no_calls;
 use stored_ledger::with_call;
+use t_mesh::add::Added;
 use t_mesh::t_mesh::Position;
 use t_mesh::t_mesh::Tmesh;
 use t_mesh::t_mesh::store_of;
@@ -91,16 +94,20 @@ fn position_at(bytes: &[u8], at: usize) -> Position
     }
 }
 
-fn replay_insertion(call: &[u8], map: Tmesh) -> MapReplayed {
+// An insertion, by the rule on torn ones that its kind has.
+fn insert(kind: u8, call: &[u8], map: Tmesh) -> Added {
+    let con = byte_at(call, 1);
     let direction = TmeshDirection::numbered(byte_at(call, 2));
+    let ratio = float_at(call, 3);
     let position = position_at(call, 11);
-    let added = add_control_point(
-        map,
-        byte_at(call, 1),
-        direction,
-        float_at(call, 3),
-        position,
-    );
+    if kind == WITHDRAWING {
+        return add_or_withdraw(map, con, direction, ratio, position);
+    }
+    add_control_point(map, con, direction, ratio, position)
+}
+
+fn replay_insertion(kind: u8, call: &[u8], map: Tmesh) -> MapReplayed {
+    let added = insert(kind, call, map);
     let answer = added.answer;
     let judged = judge_insertion(answer, call);
     let next = added.map;
@@ -254,6 +261,10 @@ fn replay_value(kind: u8, call: &[u8], map: Tmesh) -> MapReplayed {
     replay_evaluation(call, map)
 }
 
+fn is_insertion(kind: u8) -> bool {
+    kind == INSERTION || kind == WITHDRAWING
+}
+
 // Whether a call of a kind reads the points alone.
 fn is_reading(kind: u8) -> bool {
     kind == RAY || kind == KNOTS || kind == OPENINGS
@@ -263,8 +274,8 @@ fn replay(kind: u8, call: &[u8], map: Tmesh) -> MapReplayed {
     if DIRECT <= kind {
         return replay_direct(kind - DIRECT, call, map);
     }
-    if kind == INSERTION {
-        return replay_insertion(call, map);
+    if is_insertion(kind) {
+        return replay_insertion(kind, call, map);
     }
     if !is_reading(kind) {
         return replay_value(kind, call, map);

@@ -15,6 +15,7 @@ use map_format::format::CORNERS_AT;
 use map_format::format::EDITS_AT;
 use map_format::format::POSITION_BYTES;
 use map_format::format::position_at;
+use map_format::format::withdraws_torn;
 use packed_map::packed_map;
 use t_mesh::t_mesh::Tmesh;
 
@@ -51,10 +52,12 @@ pub fn run_lent(
         position_at(file, CORNERS_AT + 2 * POSITION_BYTES),
         position_at(file, CORNERS_AT + 3 * POSITION_BYTES),
     );
+    let withdraws = withdraws_torn(file);
     let mut at = EDITS_AT;
     let mut n: usize = 0;
     while n < count {
         let answer = run_edit(
+            withdraws,
             file,
             at,
             kinds,

@@ -14,7 +14,7 @@ use Rattle.surface.specs.declared.evaluation.EvaluationAnswer.the-variants.{Is,
 use Rattle.census.specs.declared.census.Counts.{Counts}
 use Rattle.openings.specs.Openings.{PointSide, pointEntry, directionEntry}
 use Rattle.map_format.specs.Format.{editsAt, editBytes, Edit, editsFrom}
-use Rattle.map_file.specs.Run.{edited, freshMap, editNumbers, fileNumbers}
+use Rattle.map_file.specs.Run.{edited, freshMap, editAnswers, editNumbers, fileWithdraws, fileNumbers}
 use Rattle.report_text.specs.Text.{editWord, newline, decimal, numberText, bitsText, refusedText}
 use Rattle.report_lines.specs.Lines.{editLine, editLines, countsLine, openLine, openLines, midText, midLine}
 
@@ -81,10 +81,10 @@ unfolding editsFrom
 edits-length zero bytes at = refl
 edits-length (suc count) bytes at = ap suc (edits-length count bytes (at + editBytes))
 
-numbers-length : (e : Float) (map : Tmesh) (edits : List Edit) → length (editNumbers e map edits) ≡ length edits
-unfolding editNumbers
-numbers-length e map [] = refl
-numbers-length e map (edit ∷ rest) = ap suc (numbers-length e (edited e map edit .map) rest)
+numbers-length : (withdraws : Bool) (e : Float) (map : Tmesh) (edits : List Edit) → length (editNumbers withdraws e map edits) ≡ length edits
+unfolding editAnswers
+numbers-length withdraws e map [] = refl
+numbers-length withdraws e map (edit ∷ rest) = ap suc (numbers-length withdraws e (edited withdraws e map edit .map) rest)
 
 pub file-numbers-length : (e : Float) (bytes : List ℕ) (count : ℕ) → length (fileNumbers e bytes count) ≡ count
-file-numbers-length e bytes count = numbers-length e (freshMap bytes) (editsFrom count bytes editsAt) ∙ edits-length count bytes editsAt
+file-numbers-length e bytes count = numbers-length (fileWithdraws bytes) e (freshMap bytes) (editsFrom count bytes editsAt) ∙ edits-length count bytes editsAt

@@ -52,6 +52,10 @@ abbrev pub withInsertion : Totals → List ℕ → Totals
 withInsertion ledger call =
     cond (eqb (byteAt call numberPlace) 0) (withMade ledger 1 0 call) (cond (eqb (byteAt call numberPlace) 8) (withMade ledger 0 1 call) ledger)
 
+-- after one that is withdrawn where it is torn, and is then in none of the totals
+abbrev pub withWithdrawing : Totals → List ℕ → Totals
+withWithdrawing ledger call = cond (eqb (byteAt call numberPlace) 0) (withMade ledger 1 0 call) ledger
+
 abbrev pub withDirectCall : Totals → Totals
 withDirectCall ledger = record {
   done = ledger .done;
@@ -61,9 +65,11 @@ withDirectCall ledger = record {
   direct = true;
 }
 
--- after a call, by its kind: 0 is an insertion, 16 and above a direct call; any other changes no side
+-- after a call, by its kind: 0 is an insertion, 10 one that is withdrawn where it is torn, 16 and above a direct call; any other changes no side
 abbrev pub withCall : Totals → List ℕ → Totals
-withCall ledger call = cond (eqb (byteAt call 0) 0) (withInsertion ledger call) (cond (ltb (byteAt call 0) 16) ledger (withDirectCall ledger))
+withCall ledger call =
+    cond (eqb (byteAt call 0) 0) (withInsertion ledger call)
+    (cond (eqb (byteAt call 0) 10) (withWithdrawing ledger call) (cond (ltb (byteAt call 0) 16) ledger (withDirectCall ledger)))
 
 -- ---- the counts
 abbrev pub doneOrTorn : Totals → ℕ

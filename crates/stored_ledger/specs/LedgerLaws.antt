@@ -17,13 +17,28 @@ module _ (number : ℕ) (done torn refused : Totals) where
   pub by-refused : (number ≡ 0 → ⊥) → (number ≡ 8 → ⊥) → refused ≡ cond (eqb number 0) done (cond (eqb number 8) torn refused)
   by-refused more other = rw (ne-eqb number 0 more, ne-eqb number 8 other)
 
--- a call's kind: 0 an insertion, 16 and above a direct call
-module _ (kind : ℕ) (insertion other direct : Totals) where
-  pub by-insertion : kind ≡ 0 → insertion ≡ cond (eqb kind 0) insertion (cond (ltb kind 16) other direct)
+-- and that of one that is withdrawn where it is torn: 0 done, any other not
+module _ (number : ℕ) (done other : Totals) where
+  pub by-standing : number ≡ 0 → done ≡ cond (eqb number 0) done other
+  by-standing zero = rw (eq-eqb number 0 zero)
+
+  pub by-not-done : (number ≡ 0 → ⊥) → other ≡ cond (eqb number 0) done other
+  by-not-done more = rw (ne-eqb number 0 more)
+
+-- a call's kind: 0 an insertion, 10 one that is withdrawn where it is torn, 16 and above a direct call
+module _ (kind : ℕ) (insertion withdrawing other direct : Totals) where
+  abbrev byKind : Totals
+  byKind = cond (eqb kind 0) insertion (cond (eqb kind 10) withdrawing (cond (ltb kind 16) other direct))
+
+  pub by-insertion : kind ≡ 0 → insertion ≡ byKind
   by-insertion zero = rw (eq-eqb kind 0 zero)
 
-  pub by-other : (kind ≡ 0 → ⊥) → kind < 16 → other ≡ cond (eqb kind 0) insertion (cond (ltb kind 16) other direct)
-  by-other more below = rw (ne-eqb kind 0 more, lt-ltb kind 16 below)
+  module _ (more : kind ≡ 0 → ⊥) where
+    pub by-withdrawing : kind ≡ 10 → withdrawing ≡ byKind
+    by-withdrawing ten = rw (ne-eqb kind 0 more, eq-eqb kind 10 ten)
 
-  pub by-direct : (kind ≡ 0 → ⊥) → 16 ≤ kind → direct ≡ cond (eqb kind 0) insertion (cond (ltb kind 16) other direct)
-  by-direct more above = rw (ne-eqb kind 0 more, le-ltb kind 16 above)
+    pub by-other : (kind ≡ 10 → ⊥) → kind < 16 → other ≡ byKind
+    by-other not-ten below = rw (ne-eqb kind 0 more, ne-eqb kind 10 not-ten, lt-ltb kind 16 below)
+
+    pub by-direct : (kind ≡ 10 → ⊥) → 16 ≤ kind → direct ≡ byKind
+    by-direct not-ten above = rw (ne-eqb kind 0 more, ne-eqb kind 10 not-ten, le-ltb kind 16 above)

@@ -1,6 +1,6 @@
 // The ledger of sides of a list of calls: what its insertions answered, by the stored bytes alone, held against what is counted of the map.
 ghost use mathlib.Core.Path.{_≡_};
-ghost use Rattle.stored_ledger.specs.Ledger.{noCalls, withMore, withMade, withInsertion, withDirectCall, withCall, pointsAreRight, sidesAreRight, ledgerIsRight, ledgerHolds};
+ghost use Rattle.stored_ledger.specs.Ledger.{noCalls, withMore, withMade, withInsertion, withWithdrawing, withDirectCall, withCall, pointsAreRight, sidesAreRight, ledgerIsRight, ledgerHolds};
 use big_endian::byte_at;
 use census::census::Counts;
 use census::counts::counts;
@@ -10,6 +10,9 @@ use t_mesh::t_mesh::Tmesh;
 use t_mesh::t_mesh::store_of;
 
 pub const INSERTION: u8 = 0;
+
+// An insertion that is withdrawn where it is torn.
+pub const WITHDRAWING: u8 = 10;
 
 // The first of the kinds that are direct calls.
 pub const DIRECT: u8 = 16;
@@ -79,6 +82,16 @@ fn with_insertion(ledger: Totals, call: &[u8]) -> Totals
     ledger
 }
 
+// One that is withdrawn where it is torn: then it is not in the totals.
+fn with_withdrawing(ledger: Totals, call: &[u8]) -> Totals
+    ensures { λ r. ⌜ r ≡ withWithdrawing ledger (now (call .entry)) ⌝ }
+{
+    if byte_at(call, NUMBER_AT) == 0 {
+        return with_made(ledger, 1, 0, call);
+    }
+    ledger
+}
+
 fn with_direct_call(ledger: Totals) -> Totals
     ensures { λ r. ⌜ r ≡ withDirectCall ledger ⌝ }
 {
@@ -98,6 +111,9 @@ pub fn with_call(ledger: Totals, call: &[u8]) -> Totals
     let kind = byte_at(call, 0);
     if kind == INSERTION {
         return with_insertion(ledger, call);
+    }
+    if kind == WITHDRAWING {
+        return with_withdrawing(ledger, call);
     }
     if kind < DIRECT {
         return ledger;

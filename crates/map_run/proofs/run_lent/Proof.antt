@@ -61,18 +61,22 @@ position-at-requires-4 c κs = search needs
 lend-corners-requires : tie.Need-lend-corners-requires Inv-loop μ-loop
 lend-corners-requires c κs = search needs
 
+withdraws-torn-requires : tie.Need-withdraws-torn-requires Inv-loop μ-loop
+withdraws-torn-requires c κs = search needs
+
 loop-holds : tie.Need-loop-holds Inv-loop μ-loop
 loop-holds c =
-    let fourth = c .before in
+    let corners = c .before in
+    let fourth = corners .before in
     let third = fourth .before in
     let second = third .before in
     let first = second .before in
     let weight = first .before .float-at in (
       omega arith,
       refl,
-      c .lend-corners .ensures .1,
+      corners .lend-corners .ensures .1,
       running-first _ _ _ _ _
-          (fresh-read _ _ (weight .result) (first .position-at .result) (second .position-at2 .result) (third .position-at3 .result) (fourth .position-at4 .result) (c .lend-corners .ensures .0)
+          (fresh-read _ _ (weight .result) (first .position-at .result) (second .position-at2 .result) (third .position-at3 .result) (fourth .position-at4 .result) (corners .lend-corners .ensures .0)
           (weight .ensures) (first .position-at .ensures) (second .position-at2 .ensures) (third .position-at3 .ensures) (fourth .position-at4 .ensures)),
     )
 
@@ -106,7 +110,7 @@ loop-again c =
       omega (arith, t .loop-test .taken),
       ap length noted ∙ length-set (l .notes) (l .n) _ ∙ l .inv .1,
       x .run-edit .ensures .1 .1,
-      running-next _ _ _ _ _ _ _ _ (l .inv .3) (t .loop-test .taken) _ (c .next-place .ensures) _ (x .run-edit .ensures .0) _ (x .run-edit .ensures .1 .0) _ noted,
+      running-next _ _ _ _ _ _ _ _ (l .inv .3) (t .loop-test .taken) _ (c .next-place .ensures) _ (t .before .before .withdraws-torn .ensures) _ (x .run-edit .ensures .0) _ (x .run-edit .ensures .1 .0) _ noted,
     )
 
 same-length : tie.Need-same-length Inv-loop μ-loop
@@ -135,6 +139,7 @@ run-lent-spec =
     add-position-at-3
     position-at-requires-4
     lend-corners-requires
+    withdraws-torn-requires
     loop-holds
     run-edit-requires
     number-requires

@@ -1,15 +1,15 @@
--- `run_edit` meets its contract: an insertion into the lent points is one into the mesh that they hold, and what is stored after it is what that mesh has after it.
+-- `run_edit` meets its contract: an insertion into the lent points is one into the mesh that they hold, by either rule, and what is stored after it is what that mesh has after it.
 use Prim.Native.Nat.{_<_}
 use mathlib.Core.Path.{_≡_, ap, _∙_, sym, subst}
-use mathlib.Core.Bool.{Bool, false}
+use mathlib.Core.Bool.{Bool, true, false}
 use native.Mathlib.Omega.{arith}
 use borrow.Author.Needs.{needs}
+use borrow.Author.Tests.{not-true, not-false}
 use denote.Ref.{now}
 use lib.Ieee.{Float}
 use lib.ListN.{length-set}
 use Rattle.control_point.specs.Small.{millionth}
-use Rattle.insertion.specs.Insert.{isRefused}
-use Rattle.insertion.specs.Lent.{Inserts}
+use Rattle.insertion.specs.Withdrawal.{leavesPoint, InsertsBy}
 use Rattle.lent_mesh.specs.InsertionLaws.{InsertsIntoMesh, lent-inserts}
 use Rattle.lent_mesh.specs.LentMesh.{rowOf}
 use Rattle.lent_points.specs.Lent.{Points, lentPoints}
@@ -19,36 +19,36 @@ use Rattle.t_mesh.specs.Tmesh.{listedIn}
 use Rattle.map_file.proofs.edit.run_edit.Statement.{statement}
 use Rattle.map_file.proofs.edit.run_edit.Tie as tie
 
-abbrev begun : tie.After-insert-point → tie.Start
+abbrev begun : tie.After-insert-by-rule → tie.Start
 begun c = c .before .before .before .before .before .before .before .before .before .before .before
 
-abbrev lent : tie.After-insert-point → Points
+abbrev lent : tie.After-insert-by-rule → Points
 lent c = let a = begun c .args in lentPoints (now (a .kinds)) (now (a .numbers)) (now (a .intervals)) (now (a .coordinates))
 
-abbrev after : tie.After-insert-point → Points
-after c = let q = c .insert-point .last .1 in lentPoints (q .0) (q .1 .0) (q .1 .1 .0) (q .1 .1 .1 .0)
+abbrev after : tie.After-insert-by-rule → Points
+after c = let q = c .insert-by-rule .last .1 in lentPoints (q .0) (q .1 .0) (q .1 .1 .0) (q .1 .1 .1 .0)
 
-abbrev edit : tie.After-insert-point → Edit
+abbrev edit : tie.After-insert-by-rule → Edit
 edit c = let a = begun c .args in editAt (now (a .file)) (a .at)
 
-inserts : (c : tie.After-insert-point) → let a = begun c .args in
-    InsertsIntoMesh millionth (lent c) (now (a .made)) (now (a .positions)) (now (a .listed)) (edit c .point) (edit c .direction) (edit c .ratio) (edit c .position) (c .insert-point .result) (after c)
+inserts : (c : tie.After-insert-by-rule) → let a = begun c .args in
+    InsertsIntoMesh (begun c .args .withdraws) millionth (lent c) (now (a .made)) (now (a .positions)) (now (a .listed)) (edit c .point) (edit c .direction) (edit c .ratio) (edit c .position) (c .insert-by-rule .result) (after c)
 inserts c =
     let a = begun c .args in
     let target = c .before .before .before .before .before .before .before .before .target-from in
     let read : target .result ≡ targetOf (edit c) = target .ensures in
-    lent-inserts millionth _ _ _ _ _ _ _ _ _ _
-    (subst (λ (t : EditTarget). Inserts millionth (lent c) (now (a .made)) (listedIn (now (a .listed)) (t .point)) (t .point) (t .direction) (t .ratio) (c .insert-point .result) (after c))
+    lent-inserts _ millionth _ _ _ _ _ _ _ _ _ _
+    (subst (λ (t : EditTarget). InsertsBy (a .withdraws) millionth (lent c) (now (a .made)) (listedIn (now (a .listed)) (t .point)) (t .point) (t .direction) (t .ratio) (c .insert-by-rule .result) (after c))
     read
-    (subst (λ (b : Bool). Inserts millionth (lent c) (now (a .made)) b (target .result .point) (target .result .direction) (target .result .ratio) (c .insert-point .result) (after c))
+    (subst (λ (b : Bool). InsertsBy (a .withdraws) millionth (lent c) (now (a .made)) b (target .result .point) (target .result .direction) (target .result .ratio) (c .insert-by-rule .result) (after c))
     (c .before .lent-listed .ensures)
-    (subst (λ (e : Float). Inserts e (lent c) (now (a .made)) (c .before .lent-listed .result) (target .result .point) (target .result .direction) (target .result .ratio) (c .insert-point .result) (after c))
+    (subst (λ (e : Float). InsertsBy (a .withdraws) e (lent c) (now (a .made)) (c .before .lent-listed .result) (target .result .point) (target .result .direction) (target .result .ratio) (c .insert-by-rule .result) (after c))
     (c .before .before .before .before .before .before .before .closeness .ensures)
-    (c .insert-point .ensures .1))))
+    (c .insert-by-rule .ensures .1))))
 
--- not refused, there is room for its point
-stands : (c : tie.Else1) → isRefused (c .before .before .insert-point .result) ≡ false
-stands c = sym (c .before .is-refused .ensures) ∙ c .if1 .left
+-- leaving a point, there is room for it
+stands : (c : tie.Else1) → leavesPoint (begun (c .before .before) .args .withdraws) (c .before .before .insert-by-rule .result) ≡ true
+stands c = sym (c .before .leaves-point .ensures) ∙ not-false _ (c .if1 .left)
 
 room : (c : tie.Else1) → now (begun (c .before .before) .args .made) < 128
 room c = inserts (c .before .before) .room (stands c)
@@ -62,16 +62,16 @@ closeness-requires c κs = search needs
 lent-listed-requires : tie.Need-lent-listed-requires
 lent-listed-requires c κs = search needs
 
-insert-point-requires : tie.Need-insert-point-requires
-insert-point-requires c κs = search needs
+insert-by-rule-requires : tie.Need-insert-by-rule-requires
+insert-by-rule-requires c κs = search needs
 
-is-refused-requires : tie.Need-is-refused-requires
-is-refused-requires c κs = search needs
+leaves-point-requires : tie.Need-leaves-point-requires
+leaves-point-requires c κs = search needs
 
 returns : tie.Need-returns
 returns c =
     let x = c .before .before in
-    (inserts x .answered, (inserts x .refused (sym (c .before .is-refused .ensures) ∙ c .if1 .taken), (x .insert-point .ensures .0, begun x .pre .1)))
+    (inserts x .answered, (inserts x .kept (sym (c .before .leaves-point .ensures) ∙ not-true _ (c .if1 .taken)), (x .insert-by-rule .ensures .0, begun x .pre .1)))
 
 edit-position-requires : tie.Need-edit-position-requires
 edit-position-requires c κs = search needs
@@ -104,7 +104,7 @@ returns-2 c =
       inserts x .answered,
       (
         inserts x .placed (stands (position .before)) (full .0) _ (row .row-of .ensures ∙ ap rowOf (position .edit-position .ensures)) _ (c .is-done .ensures),
-        (x .insert-point .ensures .0, (length-set (now (a .positions)) (now (a .made)) _ ∙ full .0, length-set (now (a .listed)) (now (a .made)) _ ∙ full .1)),
+        (x .insert-by-rule .ensures .0, (length-set (now (a .positions)) (now (a .made)) _ ∙ full .0, length-set (now (a .listed)) (now (a .made)) _ ∙ full .1)),
       ),
     )
 
@@ -115,8 +115,8 @@ run-edit-spec =
     target-from-requires
     closeness-requires
     lent-listed-requires
-    insert-point-requires
-    is-refused-requires
+    insert-by-rule-requires
+    leaves-point-requires
     returns
     edit-position-requires
     row-of-requires

@@ -1,15 +1,13 @@
 -- `validate` meets its contract: the tests are made in the order of the definition, and a right length keeps the count small.
-use mathlib.Core.Path.{_≡_, sym, _∙_}
+use mathlib.Core.Path.{_≡_, sym, ap, _∙_}
 use Prim.Native.Nat.{ℕ}
 use mathlib.Core.Bool.{true}
 use mathlib.Core.List.{List}
 use native.Mathlib.Omega.{arith}
-use lib.Dec.{eqb}
 use borrow.Author.Needs.{needs}
-use borrow.Author.Tests.{eq-eqb, ne-eqb, not-true, not-false}
-use Rattle.big_endian.specs.BigEndian.{byteAt}
+use borrow.Author.Tests.{not-true, not-false}
 use Rattle.control_point.specs.ToldLaws.{beside}
-use Rattle.map_format.specs.Format.{versionAt, theVersion, lengthRight, checkedFile, fileTold, fileTable}
+use Rattle.map_format.specs.Format.{versionOf, isVersion, lengthRight, checkedFile, fileTold, fileTable}
 use Rattle.map_format.specs.FormatLaws.{length-tells, file-told}
 use Rattle.map_format.specs.declared.format.FileCheck.{FileCheck}
 use Rattle.map_format.proofs.format.validate.Statement.{statement}
@@ -30,30 +28,37 @@ returns c = told _ _ (rw (sym (c .before .length-right .ensures) ∙ not-true _ 
 long : (c : tie.Else1) → lengthRight (c .before .before .before .args .file .now) ≡ true
 long c = sym (c .before .length-right .ensures) ∙ not-false _ (c .if1 .left)
 
-byte-at-requires : tie.Need-byte-at-requires
-byte-at-requires c κs = search needs
+version-of-requires : tie.Need-version-of-requires
+version-of-requires c κs = search needs
+
+is-version-requires : tie.Need-is-version-requires
+is-version-requires c κs = search needs
+
+-- what the test of the version says
+version-test : (c : tie.After-is-version) → isVersion (versionOf (c .before .before .before .before .before .args .file .now)) ≡ c .is-version .result
+version-test c = ap isVersion (sym (c .before .version-of .ensures)) ∙ sym (c .is-version .ensures)
 
 returns-2 : tie.Need-returns-2
 unfolding checkedFile
-returns-2 c = told _ _ (rw (long (c .before .before), ne-eqb _ theVersion (λ same. c .if2 .taken (c .before .byte-at .ensures ∙ same))))
+returns-2 c = told _ _ (rw (long (c .before .before .before), version-test (c .before) ∙ not-true _ (c .if2 .taken)))
 
--- past the test of the version
-versioned : (c : tie.Else2) → eqb (byteAt (c .before .before .before .before .before .args .file .now) versionAt) theVersion ≡ true
-versioned c = eq-eqb _ theVersion (sym (c .before .byte-at .ensures) ∙ c .if2 .left)
+-- past it
+versioned : (c : tie.Else2) → isVersion (versionOf (c .before .before .before .before .before .before .args .file .now)) ≡ true
+versioned c = version-test (c .before) ∙ not-false _ (c .if2 .left)
 
 sub-count : tie.Need-sub-count
-sub-count c = omega (arith, length-tells _ (long (c .before .before)) .0)
+sub-count c = omega (arith, length-tells _ (long (c .before .before .before)) .0)
 
 headings-right-requires : tie.Need-headings-right-requires
-headings-right-requires c κs = length-tells _ (long (c .before .before)) .2
+headings-right-requires c κs = length-tells _ (long (c .before .before .before)) .2
 
 returns-3 : tie.Need-returns-3
 unfolding checkedFile
-returns-3 c = told _ _ (rw (long (c .before .before .before .before), versioned (c .before .before), sym (c .before .headings-right .ensures) ∙ c .if3 .taken))
+returns-3 c = told _ _ (rw (long (c .before .before .before .before .before), versioned (c .before .before), sym (c .before .headings-right .ensures) ∙ c .if3 .taken))
 
 returns-4 : tie.Need-returns-4
 unfolding checkedFile
-returns-4 c = told _ _ (rw (long (c .before .before .before .before), versioned (c .before .before), sym (c .before .headings-right .ensures) ∙ c .if3 .left))
+returns-4 c = told _ _ (rw (long (c .before .before .before .before .before), versioned (c .before .before), sym (c .before .headings-right .ensures) ∙ c .if3 .left))
 
 pub validate-spec : {M : Type 1} → statement M
 validate-spec =
@@ -61,7 +66,8 @@ validate-spec =
     (tie.spec
     length-right-requires
     returns
-    byte-at-requires
+    version-of-requires
+    is-version-requires
     returns-2
     sub-count
     headings-right-requires
