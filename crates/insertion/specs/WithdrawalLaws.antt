@@ -23,7 +23,7 @@ withdrawn-torn false answer withdrawn = absurd (true≢false (sym withdrawn))
 
 -- torn, it is neither done nor refused
 pub torn-not-done : (answer : InsertAnswer) → isTorn answer ≡ true → isDone answer ≡ false
-torn-not-done (Done opened inferred) torn = torn
+torn-not-done (Done opened inferred) torn = sym torn
 torn-not-done (Torn opened inferred) torn = refl
 torn-not-done (Refused refusal) torn = refl
 

@@ -57,7 +57,8 @@ pub fn add_or_withdraw(
     ensures told { λ r. ⌜ insertTold (r .answer) ≡ insertionTable millionth (storeOf map) (isListed map con) con direction ratio ⌝ }
 {
     let mut added = add_control_point(map, con, direction, ratio, position);
-    if is_torn(added.answer) {
+    let answer = added.answer;
+    if is_torn(answer) {
         added.map = map;
     }
     added

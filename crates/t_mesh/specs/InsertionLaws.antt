@@ -8,7 +8,7 @@ use lib.Ieee.{Float}
 use lib.ListN.{length}
 use Rattle.control_point.specs.declared.t_mesh_control_point.TmeshControlPoint.{TmeshControlPoint}
 use Rattle.control_point.specs.declared.t_mesh_direction.TmeshDirection.{TmeshDirection}
-use Rattle.insertion.specs.Insert.{insertTold, isDone, isRefused, insertPoint}
+use Rattle.insertion.specs.Insert.{insertTold, isDone, isTorn, isRefused, insertPoint}
 use Rattle.insertion.specs.Table.{insertionTable}
 use Rattle.insertion.specs.TableLaws.{insertion-told}
 use Rattle.insertion.specs.LentLaws.{inserted-made}
@@ -16,7 +16,7 @@ use Rattle.insertion.specs.declared.insertion.InsertAnswer.{InsertAnswer}
 use Rattle.insertion.specs.declared.insertion.Inserted.{Inserted}
 use Rattle.lent_points.specs.LentLaws.{true-false}
 use Rattle.store.specs.declared.store.Store.{Store}
-use Rattle.t_mesh.specs.Insertion.{withPlaced, answeredMesh, insertIntoMesh, keptAfter, addControlPoint}
+use Rattle.t_mesh.specs.Insertion.{withPlaced, answeredMesh, insertIntoMesh, keptAfter, addControlPoint, addedBy}
 use Rattle.t_mesh.specs.Tmesh.{storeOf, isListed}
 use Rattle.t_mesh.specs.declared.add.Added.{Added}
 use Rattle.t_mesh.specs.declared.add.InsertedMesh.{InsertedMesh}
@@ -55,6 +55,16 @@ pub added-by-mesh : (e : Float) (map : Tmesh) (con : ℕ) (d : TmeshDirection) (
     → addedTo map (insertIntoMesh e (map .mesh) con d ratio position) ≡ addControlPoint e map con d ratio position
 unfolding insertIntoMesh addControlPoint
 added-by-mesh e map con d ratio position = refl
+
+-- ---- by the rule that withdraws torn ones: torn, the map is the one before it, else the one after it
+module _ (map : Tmesh) (added result : Added) (is : result ≡ added) where
+  pub added-withdrawn : isTorn (result .answer) ≡ true → record { answer = result .answer; map = map } ≡ addedBy true map added
+  added-withdrawn torn =
+      ap (λ (b : Bool). record { answer = result .answer; map = cond b map (result .map) }) (sym torn) ∙ ap (addedBy true map) is
+
+  pub added-standing : isTorn (result .answer) ≡ false → result ≡ addedBy true map added
+  added-standing stands =
+      ap (λ (b : Bool). record { answer = result .answer; map = cond b map (result .map) }) (sym stands) ∙ ap (addedBy true map) is
 
 -- ---- it tells what the table of an insertion says
 pub added-told : (e : Float) (map : Tmesh) (con : ℕ) (d : TmeshDirection) (ratio : Float) (position : Position)

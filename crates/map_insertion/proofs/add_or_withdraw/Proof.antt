@@ -1,0 +1,40 @@
+-- `add_or_withdraw` meets its contract: where the insertion is torn, the map given stands in place of the one after it.
+use borrow.Author.Needs.{needs}
+use mathlib.Core.Path.{_≡_, sym, _∙_}
+use mathlib.Core.Bool.{true}
+use Rattle.control_point.specs.Small.{millionth}
+use Rattle.control_point.specs.ToldLaws.{beside}
+use Rattle.insertion.specs.Insert.{insertTold}
+use Rattle.insertion.specs.Table.{insertionTable}
+use Rattle.t_mesh.specs.Insertion.{addByRule}
+use Rattle.t_mesh.specs.InsertionLaws.{added-withdrawn, added-standing, added-told}
+use Rattle.t_mesh.specs.Tmesh.{storeOf, isListed}
+use Rattle.t_mesh.specs.declared.add.Added.{Added}
+use Rattle.map_insertion.proofs.add_or_withdraw.Statement.{statement}
+use Rattle.map_insertion.proofs.add_or_withdraw.Tie as tie
+
+-- what it tells follows from what it is
+told : (c : tie.Start) (r : Added) → let a = c .args in let is = addByRule true millionth (a .map) (a .con) (a .direction) (a .ratio) (a .position) in
+    r ≡ is → (r ≡ is) × (insertTold (r .answer) ≡ insertionTable millionth (storeOf (a .map)) (isListed (a .map) (a .con)) (a .con) (a .direction) (a .ratio))
+told c = let a = c .args in beside (λ (x : Added). insertTold (x .answer)) _ _ (added-told millionth (a .map) (a .con) (a .direction) (a .ratio) (a .position))
+
+add-control-point-requires : tie.Need-add-control-point-requires
+add-control-point-requires c κs = search needs
+
+is-torn-requires : tie.Need-is-torn-requires
+is-torn-requires c κs = search needs
+
+returns : tie.Need-returns
+returns c =
+    let asked = c .before in
+    let added = asked .before in
+    told (added .before) _ (added-withdrawn _ _ (added .add-control-point .result) (added .add-control-point .ensures .0) (sym (asked .is-torn .ensures) ∙ c .if1 .taken))
+
+returns-2 : tie.Need-returns-2
+returns-2 c =
+    let asked = c .before in
+    let added = asked .before in
+    told (added .before) _ (added-standing _ _ (added .add-control-point .result) (added .add-control-point .ensures .0) (sym (asked .is-torn .ensures) ∙ c .if1 .left))
+
+pub add-or-withdraw-spec : {M : Type 1} → statement M
+add-or-withdraw-spec = tie.close (tie.spec add-control-point-requires is-torn-requires returns returns-2)
