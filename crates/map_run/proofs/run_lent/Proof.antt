@@ -11,15 +11,15 @@ use Rattle.map_run.proofs.run_lent.Statement.{statement}
 use Rattle.map_run.proofs.run_lent.Tie as tie
 
 abbrev Inv-loop : tie.InvT-loop
-Inv-loop file count notes₀ kinds₀ numbers₀ intervals₀ coordinates₀ made₀ positions₀ listed₀ at₀ n₀ notes kinds numbers intervals coordinates made positions listed at n =
+Inv-loop file count notes₀ kinds₀ numbers₀ intervals₀ coordinates₀ made₀ positions₀ listed₀ withdraws at₀ n₀ notes kinds numbers intervals coordinates made positions listed at n =
     (n ≤ count) × (length notes ≡ length notes₀) × MeshRoom kinds numbers intervals coordinates positions listed × Running millionth file count notes₀ (lentMap kinds numbers intervals coordinates made positions listed) notes at n
 
 abbrev μ-loop : tie.MeasureT-loop
-μ-loop file count notes₀ kinds₀ numbers₀ intervals₀ coordinates₀ made₀ positions₀ listed₀ at₀ n₀ notes kinds numbers intervals coordinates made positions listed at n =
+μ-loop file count notes₀ kinds₀ numbers₀ intervals₀ coordinates₀ made₀ positions₀ listed₀ withdraws at₀ n₀ notes kinds numbers intervals coordinates made positions listed at n =
     count - n
 
 abbrev begun : tie.At-loop Inv-loop μ-loop → tie.Start Inv-loop μ-loop
-begun c = c .before .before .before .before .before .before .before .before .before .before .before .before .before .before .before .before
+begun c = c .before .before .before .before .before .before .before .before .before .before .before .before .before .before .before .before .before
 
 -- an edit
 abbrev turn : tie.After-run-edit Inv-loop μ-loop → tie.In-loop Inv-loop μ-loop

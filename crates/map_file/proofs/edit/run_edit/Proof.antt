@@ -26,7 +26,7 @@ abbrev lent : tie.After-insert-by-rule → Points
 lent c = let a = begun c .args in lentPoints (now (a .kinds)) (now (a .numbers)) (now (a .intervals)) (now (a .coordinates))
 
 abbrev after : tie.After-insert-by-rule → Points
-after c = let q = c .insert-by-rule .last .1 in lentPoints (q .0) (q .1 .0) (q .1 .1 .0) (q .1 .1 .1 .0)
+after c = let q = c .insert-by-rule .last .1 .1 in lentPoints (q .0) (q .1 .0) (q .1 .1 .0) (q .1 .1 .1 .0)
 
 abbrev edit : tie.After-insert-by-rule → Edit
 edit c = let a = begun c .args in editAt (now (a .file)) (a .at)
@@ -79,8 +79,8 @@ edit-position-requires c κs = search needs
 row-of-requires : tie.Need-row-of-requires
 row-of-requires c κs = search needs
 
-mul-t25 : tie.Need-mul-t25
-mul-t25 c = search needs
+mul-t26 : tie.Need-mul-t26
+mul-t26 c = search needs
 
 element-set-from-positions : tie.Need-element-set-from-positions
 element-set-from-positions c = room (c .before .before)
@@ -120,7 +120,7 @@ run-edit-spec =
     returns
     edit-position-requires
     row-of-requires
-    mul-t25
+    mul-t26
     element-set-from-positions
     is-done-requires
     element-write-listed
