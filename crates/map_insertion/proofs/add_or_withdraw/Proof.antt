@@ -1,10 +1,10 @@
 -- `add_or_withdraw` meets its contract: where the insertion is torn, the map given stands in place of the one after it.
 use borrow.Author.Needs.{needs}
 use mathlib.Core.Path.{_≡_, sym, _∙_}
-use mathlib.Core.Bool.{true}
+use mathlib.Core.Bool.{true, false}
 use Rattle.control_point.specs.Small.{millionth}
 use Rattle.control_point.specs.ToldLaws.{beside}
-use Rattle.insertion.specs.Insert.{insertTold}
+use Rattle.insertion.specs.Insert.{insertTold, isTorn}
 use Rattle.insertion.specs.Table.{insertionTable}
 use Rattle.t_mesh.specs.Insertion.{addByRule}
 use Rattle.t_mesh.specs.InsertionLaws.{added-withdrawn, added-standing, added-told}
@@ -24,17 +24,20 @@ add-control-point-requires c κs = search needs
 is-torn-requires : tie.Need-is-torn-requires
 is-torn-requires c κs = search needs
 
+-- by what the test says of the insertion
+torn : (c : tie.After-is-torn) → c .is-torn .result ≡ true → isTorn (c .before .add-control-point .result .answer) ≡ true
+torn c says = sym (c .is-torn .ensures) ∙ says
+
+stands : (c : tie.After-is-torn) → c .is-torn .result ≡ false → isTorn (c .before .add-control-point .result .answer) ≡ false
+stands c says = sym (c .is-torn .ensures) ∙ says
+
 returns : tie.Need-returns
 returns c =
-    let asked = c .before in
-    let added = asked .before in
-    told (added .before) _ (added-withdrawn _ _ (added .add-control-point .result) (added .add-control-point .ensures .0) (sym (asked .is-torn .ensures) ∙ c .if1 .taken))
+    let test = c .before in
+    told (test .before .before) _ (added-withdrawn _ _ _ (test .before .add-control-point .ensures .0) (torn test (c .if1 .taken)))
 
 returns-2 : tie.Need-returns-2
-returns-2 c =
-    let asked = c .before in
-    let added = asked .before in
-    told (added .before) _ (added-standing _ _ (added .add-control-point .result) (added .add-control-point .ensures .0) (sym (asked .is-torn .ensures) ∙ c .if1 .left))
+returns-2 c = told (c .before .before .before) _ (added-standing _ _ _ (c .before .before .add-control-point .ensures .0) (stands (c .before) (c .if1 .left)))
 
 pub add-or-withdraw-spec : {M : Type 1} → statement M
 add-or-withdraw-spec = tie.close (tie.spec add-control-point-requires is-torn-requires returns returns-2)
