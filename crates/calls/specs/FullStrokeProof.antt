@@ -1,4 +1,4 @@
--- The theorem of FullStroke: `Tmesh::new` makes a sound map, every call keeps it sound, and every evaluation of a sound map is in 0 to 1.
+-- The theorem of FullStroke: `Tmesh::new` makes a sound map, every call keeps it sound, withdrawn or not, and every evaluation of a sound map is in 0 to 1.
 use mathlib.Core.Path.{refl, ap, subst}
 use mathlib.Core.List.{List, [], _∷_}
 use lib.Ieee.{Float}
@@ -9,16 +9,18 @@ use Rattle.calls.specs.Calls.{Call, insertion, evaluation, question, ins
 use Rattle.calls.specs.FullStroke.{Each, DoneInUnit, EvaluationInUnit, NeverPastFullStroke}
 use Rattle.calls.specs.Sound.{Sound, AnswerInUnit}
 use Rattle.calls.specs.SoundLaws.{new-sound, insertion-sound, evaluation-sound, question-sound}
+use Rattle.calls.specs.WithdrawalLaws.{by-either-rule}
 
 module _ (axis : Axis) (e : Float) where
   run-in-unit : (calls : List Call) (map : Tmesh) → Sound axis map → Each (DoneInUnit axis) (runOf e map calls)
       → Each (EvaluationInUnit axis) (runOf e map calls)
   unfolding runOf
   run-in-unit [] map sound h = tt
-  run-in-unit (insertion con d ratio position ∷ rest) map sound h = (
+  run-in-unit (insertion withdraws con d ratio position ∷ rest) map sound h = (
     (λ value equal. subst (AnswerInUnit axis) equal tt),
-    run-in-unit rest (mapAfter e map (insertion con d ratio position))
-        (insertion-sound axis e map sound con d ratio position (λ opened links equal. h .0 con d ratio position opened links refl (ap inserted equal)))
+    run-in-unit rest (mapAfter e map (insertion withdraws con d ratio position))
+        (by-either-rule (Sound axis) withdraws e map con d ratio position sound
+        (insertion-sound axis e map sound con d ratio position (λ opened links equal. h .0 withdraws con d ratio position opened links refl (ap inserted equal))))
         (h .1),
   )
   run-in-unit (evaluation s t ∷ rest) map sound h =

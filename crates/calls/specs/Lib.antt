@@ -8,6 +8,7 @@ pub mod GoodLaws
 pub mod GoodKnotsLaws
 pub mod Sound
 pub mod SoundLaws
+pub mod WithdrawalLaws
 pub mod FullStrokeProof
 pub mod ExampleValues
 pub mod NotEmpty

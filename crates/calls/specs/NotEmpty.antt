@@ -1,8 +1,9 @@
 -- The theorem of FullStroke is not empty. On a map with border 1.0, at the closeness of document 01: a list of calls that meets its
 -- premises on the first axis and whose evaluation is exactly 1.0 there; and one that meets them on every axis, in which a torn point
 -- at 7.0 stands in the mesh, linked and not listed, and whose evaluation has a positive and finite weight and lies in 0 to 1.
+-- Torn insertions are withdrawn where the call says so: the same insertion is then answered the same and leaves the map as it was, whether it keeps knots or not.
 use mathlib.Core.Path.{_≡_}
-use mathlib.Core.Bool.{false}
+use mathlib.Core.Bool.{true, false}
 use mathlib.Core.List.{List, [], _∷_}
 use lib.Dec.{T}
 use lib.Ieee.{inf, binary64, ofBits, lt}
@@ -19,7 +20,7 @@ use Rattle.t_mesh.specs.declared.t_mesh.Tmesh.{Tmesh}
 use Rattle.surface.specs.Evaluation.{onAxis, positionOf}
 use Rattle.surface.specs.declared.evaluation.Evaluation.{Evaluation}
 use Rattle.surface.specs.declared.evaluation.EvaluationAnswer.the-variants.{Is}
-use Rattle.calls.specs.Calls.{Call, insertion, evaluation, inserted, evaluated, mapAfter, runOf}
+use Rattle.calls.specs.Calls.{Call, insertion, evaluation, inserted, evaluated, answerTo, mapAfter, runOf}
 use Rattle.calls.specs.FullStroke.{InUnit, Premises}
 use Rattle.calls.specs.ExampleValues.{half, seven, positionAt}
 
@@ -37,7 +38,7 @@ upper = positionAt oneLiteral oneLiteral oneLiteral
 
 -- an insertion, and an evaluation in the middle
 abbrev pub fullCalls : List Call
-fullCalls = insertion 0 Right half lower ∷ (evaluation half half ∷ [])
+fullCalls = insertion false 0 Right half lower ∷ (evaluation half half ∷ [])
 
 -- what the evaluation answers: 1.0 on the first axis
 abbrev pub full : Evaluation
@@ -53,7 +54,7 @@ full =
 abbrev pub FullRun : Type 0
 FullRun =
     runOf millionth (newTmesh oneLiteral lower lower upper upper) fullCalls
-    ≡ record { call = insertion 0 Right half lower; answer = inserted (Done 1 0) }
+    ≡ record { call = insertion false 0 Right half lower; answer = inserted (Done 1 0) }
     ∷ (record { call = evaluation half half; answer = evaluated (Is full) } ∷ [])
 
 -- the premises hold, and the evaluation is exactly 1.0 with a positive and finite weight
@@ -84,7 +85,7 @@ abbrev pub outside : Position
 outside = positionAt seven seven seven
 
 abbrev pub tearing : Call
-tearing = insertion 0 Right zeroLiteral outside
+tearing = insertion false 0 Right zeroLiteral outside
 
 -- that insertion, and an evaluation in the middle
 abbrev pub tornCalls : List Call
@@ -122,6 +123,24 @@ pub record TornPointPassedOver : Type 0 where
   pub weighty : Weighty inside
   pub in-unit : (axis : Axis) → InUnit (onAxis axis inside)
 
--- both
+-- ---- the same insertion, withdrawn
+abbrev pub withdrawing : Call
+withdrawing = insertion true 0 Right zeroLiteral outside
+
+-- on a map it is answered torn, with the same side opened, and the map is left as it was
+abbrev pub LeavesMap : Tmesh → Type 0
+LeavesMap map = (answerTo millionth map withdrawing ≡ inserted (Torn 1 0)) × (mapAfter millionth map withdrawing ≡ map)
+
+-- the map after an evaluation, which keeps the knots that it built
+abbrev pub evaluatedPlate : Tmesh
+evaluatedPlate = mapAfter millionth plate (evaluation half half)
+
+-- so it is on the fresh map, and on the one that keeps knots
+pub record WithdrawnLeavesMap : Type 0 where
+  pub fresh : LeavesMap plate
+  pub keeps : evaluatedPlate .kept ≡ true
+  pub with-knots : LeavesMap evaluatedPlate
+
+-- all three
 abbrev pub NotEmpty : Type 0
-NotEmpty = FullStrokeTouched × TornPointPassedOver
+NotEmpty = FullStrokeTouched × (TornPointPassedOver × WithdrawnLeavesMap)

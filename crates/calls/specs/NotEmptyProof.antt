@@ -1,4 +1,4 @@
--- Both lists of NotEmpty, by computing: every call of them runs on closed values.
+-- What NotEmpty says, by computing: every call runs on closed values.
 use mathlib.Core.Path.{refl, sym, subst}
 use lib.Ieee.{Float, ofBits, ofFields, add, sub, mul, div, sum, round, units, odd, size, span, climb, neg, le, lt, eq}
 use Rattle.float64.specs.Literals.{zeroLiteral, oneLiteral}
@@ -22,11 +22,11 @@ use Rattle.surface.specs.Evaluation.{onAxis, sumFrom, valueOf, withKnots, subsO
 use Rattle.calls.specs.Calls.{Call, insertion, evaluation, question, Answer, inserted, evaluated, questioned, Event, runOf}
 use Rattle.calls.specs.FullStroke.{InUnit, Each, DoneInUnit}
 use Rattle.calls.specs.ExampleValues.{positionAt}
-use Rattle.calls.specs.NotEmpty.{FullRun, FullStrokeTouched, inside, TornRun, TornStands, TornPointPassedOver, NotEmpty}
+use Rattle.calls.specs.NotEmpty.{FullRun, FullStrokeTouched, inside, TornRun, TornStands, TornPointPassedOver, WithdrawnLeavesMap, NotEmpty}
 
 -- ---- the premises on done insertions, of single events
 abbrev PlacedInUnit : Axis → Call → Type 0
-PlacedInUnit axis (insertion con d ratio position) = InUnit (coordinate axis position)
+PlacedInUnit axis (insertion withdraws con d ratio position) = InUnit (coordinate axis position)
 PlacedInUnit axis (evaluation s t) = Unit {0}
 PlacedInUnit axis (question cell) = Unit {0}
 
@@ -38,10 +38,10 @@ NotDone (evaluated answer) = Unit {0}
 NotDone (questioned answer) = Unit {0}
 
 in-unit-event : (axis : Axis) (event : Event) → PlacedInUnit axis (event .call) → DoneInUnit axis event
-in-unit-event axis event h con d ratio position opened links call answer = subst (PlacedInUnit axis) call h
+in-unit-event axis event h withdraws con d ratio position opened links call answer = subst (PlacedInUnit axis) call h
 
 other-event : (axis : Axis) (event : Event) → NotDone (event .answer) → DoneInUnit axis event
-other-event axis event h con d ratio position opened links call answer = absurd (subst NotDone answer h)
+other-event axis event h withdraws con d ratio position opened links call answer = absurd (subst NotDone answer h)
 
 zero-in-unit : InUnit zeroLiteral
 unfolding ofBits ofFields le lt eq
@@ -52,12 +52,12 @@ unfolding ofBits ofFields le lt eq
 one-in-unit = (tt, tt)
 
 -- ---- the calls
-computed : FullRun × (TornRun × TornStands)
+computed : FullRun × (TornRun × (TornStands × WithdrawnLeavesMap))
 unfolding runOf newTmesh addControlPoint insertPoint inUnit checked checkedIntervals placed newSide firstSide withFirst secondSide sided
     connectPoints connectable isMade sidesOf millionth small findInferredConnection seekFrom judgeAt walkOf onward subsOf withKnots
     generateKnotVectors allKnots rowsFrom pointKnotVectors knotsAt rayOf rayFrom approachOf approachIn valueOf sumFrom formula sumOfTerms
     le lt eq ofBits ofFields add sub mul div sum round units odd size span climb neg
-computed = (refl, (refl, (refl, (refl, refl))))
+computed = (refl, (refl, ((refl, (refl, refl)), record { fresh = (refl, refl); keeps = refl; with-knots = (refl, refl) })))
 
 full-stroke-touched : FullStrokeTouched
 unfolding ofBits ofFields lt
@@ -100,10 +100,10 @@ torn-point-passed-over =
             done = subst (Each (DoneInUnit axis)) (sym (computed .1 .0)) (other-event axis _ tt, (other-event axis _ tt, tt));
           };
       run = computed .1 .0;
-      stands = computed .1 .1;
+      stands = computed .1 .1 .0;
       weighty = (tt, tt);
       in-unit = inside-in-unit;
     }
 
 pub not-empty : NotEmpty
-not-empty = (full-stroke-touched, torn-point-passed-over)
+not-empty = (full-stroke-touched, (torn-point-passed-over, computed .1 .1 .1))
