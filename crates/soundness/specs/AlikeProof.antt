@@ -26,10 +26,11 @@ use Rattle.grid_index.specs.IndexLaws.{index-same}
 use Rattle.grid_index.specs.declared.Cell.{Cell}
 use Rattle.grid_index.specs.declared.Index.{Index}
 use Rattle.insertion.specs.Insert.{insertTold, isRefused, insertPoint}
+use Rattle.insertion.specs.Withdrawal.{isWithdrawn}
 use Rattle.insertion.specs.declared.insertion.InsertAnswer.{InsertAnswer}
 use Rattle.insertion.specs.declared.insertion.InsertAnswer.the-variants.{Done as Added, Torn, Refused as NotAdded}
 use Rattle.insertion.specs.declared.insertion.Inserted.{Inserted}
-use Rattle.t_mesh.specs.Insertion.{afterInsertion, answered, addControlPoint}
+use Rattle.t_mesh.specs.Insertion.{afterInsertion, answered, addControlPoint, addedBy, addByRule}
 use Rattle.t_mesh.specs.Tmesh.{storeOf, isListed, newTmesh}
 use Rattle.t_mesh.specs.declared.t_mesh.Mesh.{Mesh}
 use Rattle.t_mesh.specs.declared.t_mesh.Position.{Position}
@@ -298,17 +299,25 @@ module _ (one other : Tmesh) (sound : SoundMap one) (sound′ : SoundMap other) 
           }
       by-answer position position′ (NotAdded refusal) store grown = alike
 
-      inserted-alike : (position position′ : Position) → Alike (addControlPoint e one con d ratio position .map) (addControlPoint e other con d ratio position′ .map)
+      -- withdrawn both or neither
+      by-withdrawn : (withdrawn : Bool) (after after′ : Tmesh) → Alike after after′ → Alike (cond withdrawn one after) (cond withdrawn other after′)
+      by-withdrawn true after after′ inserted = alike
+      by-withdrawn false after after′ inserted = inserted
+
+      inserted-alike : (withdraws : Bool) (position position′ : Position)
+          → Alike (addByRule withdraws e one con d ratio position .map) (addByRule withdraws e other con d ratio position′ .map)
       unfolding addControlPoint
-      inserted-alike position position′ =
+      inserted-alike withdraws position position′ =
           let result = insertPoint e (storeOf one) (isListed one con) con d ratio in
-          subst (λ (too : Inserted). Alike (answered one position result .map) (answered other position′ too .map)) inserted-too
-          (by-answer position position′ (result .answer) (result .store) (insertion-grown one (sound .mesh) e con d ratio))
+          subst (λ (too : Inserted). Alike (addedBy withdraws one (answered one position result) .map) (addedBy withdraws other (answered other position′ too) .map))
+          inserted-too
+          (by-withdrawn (isWithdrawn withdraws (result .answer)) _ _
+          (by-answer position position′ (result .answer) (result .store) (insertion-grown one (sound .mesh) e con d ratio)))
 
     -- ---- any call, the second time without its position
     told-alike : (call : MapCall) → toldWithout e one call ≡ toldWithout e other (callWithout call)
     unfolding addControlPoint
-    told-alike (entry (insertion con d ratio position)) = ap (λ (result : Inserted). insertTold (result .answer)) (inserted-too con d ratio)
+    told-alike (entry (insertion withdraws con d ratio position)) = ap (λ (result : Inserted). insertTold (result .answer)) (inserted-too con d ratio)
     told-alike (entry (evaluation s t)) = ap evaluationTold (evaluated-alike s t)
     told-alike (entry (question cell)) = ap cellTold (cell-alike cell)
     told-alike generate-knot-vectors = ap outcomeTold (generated-alike .0)
@@ -318,7 +327,7 @@ module _ (one other : Tmesh) (sound : SoundMap one) (sound′ : SoundMap other) 
 
     after-alike : (call : MapCall) → Alike (afterCall e one call) (afterCall e other (callWithout call))
     unfolding subsOf cellPoints
-    after-alike (entry (insertion con d ratio position)) = inserted-alike con d ratio position _
+    after-alike (entry (insertion withdraws con d ratio position)) = inserted-alike con d ratio withdraws position _
     after-alike (entry (evaluation s t)) = ready-alike .1
     after-alike (entry (question cell)) = ready-alike .1
     after-alike generate-knot-vectors = generated-alike .1

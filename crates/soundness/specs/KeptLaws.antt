@@ -37,10 +37,11 @@ use Rattle.t_mesh.specs.declared.t_mesh.Tmesh.{Tmesh}
 use Rattle.calls.specs.Calls.{insertion, evaluation, question}
 use Rattle.calls.specs.ListLaws.{set-case, replicate-case}
 use Rattle.calls.specs.RowsLaws.{OfRows, all-rows}
+use Rattle.calls.specs.WithdrawalLaws.{by-either-rule}
 use Rattle.soundness.specs.FreshLaws.{sound-fresh}
 use Rattle.soundness.specs.InsertionLaws.{Grown}
 use Rattle.soundness.specs.MapCalls.{MapCall, entry, generate-knot-vectors, point-knot-vectors, cast-ray, direct, afterCall, mapAfterAll}
-use Rattle.soundness.specs.MapLaws.{SoundMesh, listing-torn, insertion-grown, sound-call}
+use Rattle.soundness.specs.MapLaws.{SoundMesh, listing-torn, insertion-grown, insertion-sound, sound-call}
 use Rattle.soundness.specs.Theorems.{EveryMap}
 
 -- ---- rows of knots
@@ -107,6 +108,16 @@ module _ (map : Tmesh) (sound : SoundMap map) where
       ∙ ap (λ (listed : List Bool). indexOf listed (map .knots)) (sym (listing-torn map (sound .mesh) position opened inferred store (grown refl)))
   after-insertion position (NotAdded refusal) store grown kept = sound .index kept
 
+  inserted-map : (e : Float) (con : ℕ) (d : TmeshDirection) (ratio : Float) (position : Position) → SoundMap (addControlPoint e map con d ratio position .map)
+  unfolding addControlPoint
+  inserted-map e con d ratio position =
+      let result = insertPoint e (storeOf map) (isListed map con) con d ratio in
+      record {
+        mesh = insertion-sound map (sound .mesh) e con d ratio position;
+        rows = sound .rows;
+        index = after-insertion position (result .answer) (result .store) (insertion-grown map (sound .mesh) e con d ratio);
+      }
+
   -- ---- knots kept or built
   -- the map, and where it is not refused, that its knots are kept
   abbrev Ready : Generated → Type 0
@@ -126,14 +137,9 @@ module _ (map : Tmesh) (sound : SoundMap map) where
 
   -- ---- any call
   pub map-call : (e : Float) (call : MapCall) → SoundMap (afterCall e map call)
-  unfolding addControlPoint subsOf cellPoints
-  map-call e (entry (insertion con d ratio position)) =
-      let result = insertPoint e (storeOf map) (isListed map con) con d ratio in
-      record {
-        mesh = sound-call map (sound .mesh) e (entry (insertion con d ratio position));
-        rows = sound .rows;
-        index = after-insertion position (result .answer) (result .store) (insertion-grown map (sound .mesh) e con d ratio);
-      }
+  unfolding subsOf cellPoints
+  map-call e (entry (insertion withdraws con d ratio position)) =
+      by-either-rule SoundMap withdraws e map con d ratio position sound (inserted-map e con d ratio position)
   map-call e (entry (evaluation s t)) = ready e .0
   map-call e (entry (question cell)) = ready e .0
   map-call e generate-knot-vectors = generated-ready e .0

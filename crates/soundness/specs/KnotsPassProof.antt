@@ -37,6 +37,7 @@ use Rattle.calls.specs.Good.{NotNegative, GoodStore, GoodEntries, GoodRay}
 use Rattle.calls.specs.GoodLaws.{store-sides, point-inserted}
 use Rattle.calls.specs.GoodKnotsLaws.{ray-entries}
 use Rattle.calls.specs.SoundLaws.{corner-store}
+use Rattle.calls.specs.WithdrawalLaws.{by-either-rule}
 use Rattle.soundness.specs.KnotsPass.{Passes, BothPass, KnotsPass}
 use Rattle.soundness.specs.MapCalls.{mapAfterAll, entries}
 
@@ -127,9 +128,10 @@ good-ready e map good = cond-case (map .kept) GoodMesh _ _ (λ _. good) (λ _. k
     kept (all rows) = good
     kept (none refusal) = good
 
-good-call : (e : Float) (map : Tmesh) → GoodStore (storeOf map) → (call : Call) → GoodStore (storeOf (mapAfter e map call))
-unfolding addControlPoint subsOf cellPoints
-good-call e map good (insertion con d ratio position) =
+good-inserted : (e : Float) (map : Tmesh) → GoodStore (storeOf map) → (con : ℕ) (d : TmeshDirection) (ratio : Float) (position : Position)
+    → GoodStore (storeOf (addControlPoint e map con d ratio position .map))
+unfolding addControlPoint
+good-inserted e map good con d ratio position =
     by-answer (insertPoint e (storeOf map) (isListed map con) con d ratio .answer)
     (insertPoint e (storeOf map) (isListed map con) con d ratio .store)
     (point-inserted (storeOf map) good con d ratio e (isListed map con))
@@ -138,6 +140,11 @@ good-call e map good (insertion con d ratio position) =
     by-answer (Done opened links) store h = h
     by-answer (Torn opened links) store h = h
     by-answer (Refused refusal) store h = good
+
+good-call : (e : Float) (map : Tmesh) → GoodStore (storeOf map) → (call : Call) → GoodStore (storeOf (mapAfter e map call))
+unfolding subsOf cellPoints
+good-call e map good (insertion withdraws con d ratio position) =
+    by-either-rule (λ after. GoodStore (storeOf after)) withdraws e map con d ratio position good (good-inserted e map good con d ratio position)
 good-call e map good (evaluation s t) = good-ready e map good
 good-call e map good (question cell) = good-ready e map good
 

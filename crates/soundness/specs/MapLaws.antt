@@ -16,12 +16,14 @@ use Rattle.store.specs.declared.store.Store.{Store}
 use Rattle.mirror.specs.BoolLaws.{cond-case, and-both, or-case}
 use Rattle.mirror.specs.Mirror.{Sound}
 use Rattle.insertion.specs.Insert.{isDone, isRefused, insertPoint}
+use Rattle.insertion.specs.Withdrawal.{isWithdrawn}
+use Rattle.insertion.specs.WithdrawalLaws.{withdrawn-torn, torn-not-done}
 use Rattle.insertion.specs.declared.insertion.InsertAnswer.{InsertAnswer}
 use Rattle.insertion.specs.declared.insertion.InsertAnswer.the-variants.{Done as Added, Torn, Refused as NotAdded}
 use Rattle.insertion.specs.declared.insertion.Inserted.{Inserted}
 use Rattle.ray.specs.Knots.{pointKnotVectors}
 use Rattle.ray.specs.declared.knots.PointKnots.{PointKnots}
-use Rattle.t_mesh.specs.Insertion.{withPlaced, afterInsertion, addControlPoint}
+use Rattle.t_mesh.specs.Insertion.{withPlaced, afterInsertion, addControlPoint, addByRule}
 use Rattle.t_mesh.specs.Tmesh.{meshStore, storeOf, isListed}
 use Rattle.t_mesh.specs.declared.t_mesh.Mesh.{Mesh}
 use Rattle.t_mesh.specs.declared.t_mesh.Position.{Position}
@@ -38,6 +40,7 @@ use Rattle.cells.specs.declared.CellAnswer.the-variants.{Is as Words, Refused a
 use Rattle.grid_index.specs.Index.{cellOf}
 use Rattle.grid_index.specs.declared.Cell.{Cell}
 use Rattle.calls.specs.Calls.{insertion, evaluation, question}
+use Rattle.calls.specs.WithdrawalLaws.{by-either-rule}
 use Rattle.mirror.specs.EveryListMirroredProof.{sound-call as sound-direct}
 use Rattle.soundness.specs.DirectLaws.{call-grows}
 use Rattle.soundness.specs.MapCalls.{MapCall, entry, generate-knot-vectors, point-knot-vectors, cast-ray, direct, afterCall, addsPoint}
@@ -157,15 +160,25 @@ module _ (map : Tmesh) (mesh-sound : SoundMesh (map .mesh)) where
       unfolding addControlPoint result
       insertion-places = result-inserts .placing
 
-      insertion-sound : SoundMesh (addControlPoint e map con d ratio position .map .mesh)
+      pub insertion-sound : SoundMesh (addControlPoint e map con d ratio position .map .mesh)
       unfolding addControlPoint result
       insertion-sound = sound-after position (result .answer) (result .store) (result-inserts .grown)
 
-      insertion-lists : (n : ℕ)
+      pub insertion-lists : (n : ℕ)
           → isListed (addControlPoint e map con d ratio position .map) n
           ≡ ((isDone (addControlPoint e map con d ratio position .answer) && eqb n (storeOf map .made)) || isListed map n)
       unfolding addControlPoint result
       insertion-lists = listing-after position (result .answer) (result .store) (result-inserts .grown)
+
+      -- withdrawn, it is not done, and the listing is as it was
+      insertion-lists-by : (withdraws : Bool) (n : ℕ)
+          → isListed (addByRule withdraws e map con d ratio position .map) n
+          ≡ ((isDone (addControlPoint e map con d ratio position .answer) && eqb n (storeOf map .made)) || isListed map n)
+      insertion-lists-by withdraws n =
+          let answer = addControlPoint e map con d ratio position .answer in
+          cond-case (isWithdrawn withdraws answer) (λ after. isListed after n ≡ ((isDone answer && eqb n (storeOf map .made)) || isListed map n)) _ _
+          (λ withdrawn. ap (λ (done : Bool). (done && eqb n (storeOf map .made)) || isListed map n) (sym (torn-not-done answer (withdrawn-torn withdraws answer withdrawn))))
+          (λ _. insertion-lists n)
 
   -- ---- an evaluation and a question
   module _ (e : Float) where
@@ -232,7 +245,8 @@ module _ (map : Tmesh) (mesh-sound : SoundMesh (map .mesh)) where
   -- ---- any call
   pub sound-call : (e : Float) (call : MapCall) → SoundMesh (afterCall e map call .mesh)
   unfolding subsOf cellPoints
-  sound-call e (entry (insertion con d ratio position)) = insertion-sound e con d ratio position
+  sound-call e (entry (insertion withdraws con d ratio position)) =
+      by-either-rule (λ after. SoundMesh (after .mesh)) withdraws e map con d ratio position mesh-sound (insertion-sound e con d ratio position)
   sound-call e (entry (evaluation s t)) = subst SoundMesh (sym (ready-mesh e)) mesh-sound
   sound-call e (entry (question cell)) = subst SoundMesh (sym (ready-mesh e)) mesh-sound
   sound-call e generate-knot-vectors = subst SoundMesh (sym (generates e .1)) mesh-sound
@@ -248,7 +262,7 @@ module _ (map : Tmesh) (mesh-sound : SoundMesh (map .mesh)) where
   pub listing-call : (e : Float) (call : MapCall) (n : ℕ)
       → isListed (afterCall e map call) n ≡ ((addsPoint e map call && eqb n (storeOf map .made)) || isListed map n)
   unfolding subsOf cellPoints
-  listing-call e (entry (insertion con d ratio position)) n = insertion-lists e con d ratio position n
+  listing-call e (entry (insertion withdraws con d ratio position)) n = insertion-lists-by e con d ratio position withdraws n
   listing-call e (entry (evaluation s t)) n = ap (λ (mesh : Mesh). getD (mesh .listed) n false) (ready-mesh e)
   listing-call e (entry (question cell)) n = ap (λ (mesh : Mesh). getD (mesh .listed) n false) (ready-mesh e)
   listing-call e generate-knot-vectors n = ap (λ (mesh : Mesh). getD (mesh .listed) n false) (generates e .1)

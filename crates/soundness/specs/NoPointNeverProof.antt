@@ -183,7 +183,7 @@ module _ (store : Store) (sound : Sound store) where
   direct-unless (read-point n) = point-unless n (isMade (store .made) n) refl
 
 unless-unmade : (map : Tmesh) → SoundMesh (map .mesh) → (e : Float) (call : MapCall) → Unless (pointsMade map call) (numberTo e map call)
-unless-unmade map sound e (entry (insertion con d ratio position)) =
+unless-unmade map sound e (entry (insertion withdraws con d ratio position)) =
     answer-not (addControlPoint e map con d ratio position .answer) (insertion-known map sound e con d ratio position)
 unless-unmade map sound e (entry (evaluation s t)) = evaluation-not (subsOf e map s t .answer) (evaluation-known map sound e s t)
 unless-unmade map sound e (entry (question cell)) = question-not (cellPoints e map cell .answer) (question-known map sound e cell)

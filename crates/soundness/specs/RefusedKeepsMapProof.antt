@@ -1,5 +1,6 @@
 -- Refused, a call leaves the map as it was: each is defined so.
 use mathlib.Core.Path.{_≡_, refl, ap, _∙_}
+use mathlib.Core.Bool.{Bool, true}
 use lib.Ieee.{Float}
 use Rattle.control_point.specs.Told.{outcomeNumber}
 use Rattle.control_point.specs.declared.refusal.Outcome.{Outcome}
@@ -8,6 +9,7 @@ use Rattle.store.specs.declared.store.Store.{Store}
 use Rattle.mirror.specs.BoolLaws.{cond-case}
 use Rattle.mirror.specs.RefusedUnchangedProof.{refused-unchanged}
 use Rattle.insertion.specs.Insert.{answerNumber, insertPoint}
+use Rattle.insertion.specs.Withdrawal.{isWithdrawn, unlessWithdrawn}
 use Rattle.insertion.specs.declared.insertion.InsertAnswer.{InsertAnswer}
 use Rattle.insertion.specs.declared.insertion.InsertAnswer.the-variants.{Done as Added, Torn, Refused as NotAdded}
 use Rattle.knot_vectors.specs.Knots.{AllKnots, all, none, allKnots, keeping, generateKnotVectors}
@@ -25,12 +27,14 @@ use Rattle.calls.specs.Calls.{insertion, evaluation, question}
 use Rattle.soundness.specs.MapCalls.{entry, generate-knot-vectors, point-knot-vectors, cast-ray, direct}
 use Rattle.soundness.specs.Theorems.{RefusedKeepsMap}
 
--- an insertion that is neither done nor torn
-by-answer : (map : Tmesh) (position : Position) (answer : InsertAnswer) (store : Store) → (answerNumber answer ≡ 0 → ⊥) → (answerNumber answer ≡ 8 → ⊥)
-    → afterInsertion map position answer store ≡ map
-by-answer map position (Added opened inferred) store done torn = absurd (done refl)
-by-answer map position (Torn opened inferred) store done torn = absurd (torn refl)
-by-answer map position (NotAdded refusal) store done torn = refl
+-- an insertion that is not done, and is withdrawn where it is torn
+by-answer : (withdraws : Bool) (map : Tmesh) (position : Position) (answer : InsertAnswer) (store : Store) → (answerNumber answer ≡ 0 → ⊥)
+    → (answerNumber answer ≡ 8 → withdraws ≡ true) → unlessWithdrawn withdraws answer map (afterInsertion map position answer store) ≡ map
+by-answer withdraws map position (Added opened inferred) store done torn = absurd (done refl)
+by-answer withdraws map position (Torn opened inferred) store done torn =
+    ap (λ (rule : Bool). unlessWithdrawn rule (Torn opened inferred) map (afterInsertion map position (Torn opened inferred) store)) (torn refl)
+by-answer withdraws map position (NotAdded refusal) store done torn =
+    cond-case (isWithdrawn withdraws (NotAdded refusal)) (λ after. after ≡ map) _ _ (λ _. refl) (λ _. refl)
 
 -- a building that is not done
 abbrev Keeps : Tmesh → Generated → Type 0
@@ -56,8 +60,8 @@ words-by (Refused refusal) words = refl
 
 pub refused-keeps-map : RefusedKeepsMap
 unfolding addControlPoint subsOf cellPoints generateKnotVectors
-refused-keeps-map e map (entry (insertion con d ratio position)) done torn =
-    let result = insertPoint e (storeOf map) (isListed map con) con d ratio in by-answer map position (result .answer) (result .store) done torn
+refused-keeps-map e map (entry (insertion withdraws con d ratio position)) done torn =
+    let result = insertPoint e (storeOf map) (isListed map con) con d ratio in by-answer withdraws map position (result .answer) (result .store) done torn
 refused-keeps-map e map (entry (evaluation s t)) done torn =
     keeps e map (λ built. done (number-by (withKnots e map .outcome) (valueOf (withKnots e map .map) s t) ∙ built))
 refused-keeps-map e map (entry (question cell)) done torn =
