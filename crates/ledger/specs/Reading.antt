@@ -1,6 +1,7 @@
 -- The theorem is not empty. On a map with border 1.0 and any corners, at document 01's closeness: ratio 0.5 from 0 Up; 0.5 from 1 Up, which infers a link; an insertion from
--- 0 Left, which is refused; 0.0 from 0 Right, which is torn; and 0.0 from 4 Right, which infers a link on one side and is torn on the other. C is 4, O is 5 and I is 2: 8 points,
--- 10 links, 11 borders and 1 opening. 6 points are listed.
+-- 0 Left, which is refused; 0.0 from 0 Right, which is torn and withdrawn; the same again, torn and not withdrawn; and 0.0 from 4 Right, which infers a link on one side and is
+-- torn on the other. The withdrawn one is in none of C, O and I: C is 4, O is 5 and I is 2, so 8 points, 10 links, 11 borders and 1 opening. 6 points are listed.
+use mathlib.Core.Bool.{true, false}
 use mathlib.Core.List.{List, [], _∷_}
 use mathlib.Core.Path.{_≡_}
 use Rattle.float64.specs.Literals.{zeroLiteral}
@@ -21,7 +22,7 @@ use Rattle.soundness.specs.MapCalls.{mapAfterAll, entries}
 use Rattle.ledger.specs.Ledger.{doneOrTorn, sidesOpened, linksInferred}
 use Rattle.ledger.specs.Theorem.{insertionAnswers}
 
--- what they answer
+-- what those that are not withdrawn answer
 abbrev pub answers : List InsertAnswer
 answers = Done 1 0 ∷ (Done 1 1 ∷ (Refused BorderSide ∷ (Torn 1 0 ∷ (Torn 2 1 ∷ []))))
 
@@ -31,11 +32,12 @@ module _ (bottomLeft bottomRight topRight topLeft position : Position) where
 
   abbrev pub edits : List Call
   edits =
-      insertion 0 Up half position
-      ∷ (insertion 1 Up half position
-      ∷ (insertion 0 Left half position
-      ∷ (insertion 0 Right zeroLiteral position
-      ∷ (insertion 4 Right zeroLiteral position ∷ []))))
+      insertion false 0 Up half position
+      ∷ (insertion false 1 Up half position
+      ∷ (insertion false 0 Left half position
+      ∷ (insertion true 0 Right zeroLiteral position
+      ∷ (insertion false 0 Right zeroLiteral position
+      ∷ (insertion false 4 Right zeroLiteral position ∷ [])))))
 
   abbrev pub after : Tmesh
   after = mapAfterAll millionth fresh (entries edits)

@@ -1,7 +1,7 @@
--- The ledger holds because a fresh map has four links and eight borders, and each call moves what its sides come to by what its answer says.
+-- The ledger holds because a fresh map has four links and eight borders, and each call moves what its sides come to by what its answer says; a withdrawn insertion moves nothing.
 use Prim.Native.Nat.{ℕ, _+_, _*_}
 use mathlib.Core.Path.{_≡_, refl, sym, ap, _∙_, subst}
-use mathlib.Core.Bool.{false, _&&_, _||_}
+use mathlib.Core.Bool.{Bool, true, false, cond, _&&_, _||_}
 use mathlib.Core.List.{List, [], _∷_}
 use native.Mathlib.Omega.{arith}
 use lib.Dec.{eqb}
@@ -18,6 +18,7 @@ use Rattle.control_point.specs.declared.t_mesh_direction.TmeshDirection.{TmeshD
 use Rattle.control_point.specs.declared.t_mesh_direction.TmeshDirection.the-variants.{Up, Right, Down, Left}
 use Rattle.store.specs.declared.store.Store.{Store}
 use Rattle.insertion.specs.Insert.{isDone, isRefused, insertPoint}
+use Rattle.insertion.specs.Withdrawal.{isWithdrawn}
 use Rattle.insertion.specs.declared.insertion.InsertAnswer.{InsertAnswer}
 use Rattle.insertion.specs.declared.insertion.InsertAnswer.the-variants.{Done, Torn, Refused}
 use Rattle.insertion.specs.declared.insertion.Inserted.{Inserted}
@@ -36,7 +37,7 @@ use Rattle.calls.specs.Calls.{Call, insertion, evaluation, question, mapAfter, 
 use Rattle.soundness.specs.FreshLaws.{sound-fresh}
 use Rattle.soundness.specs.InsertionLaws.{Grown}
 use Rattle.soundness.specs.MapCalls.{entry, mapAfterAll, entries}
-use Rattle.soundness.specs.MapLaws.{SoundMesh, unlisted, insertion-grown, ready-mesh, sound-call, listing-call}
+use Rattle.soundness.specs.MapLaws.{SoundMesh, unlisted, insertion-grown, insertion-lists, ready-mesh, sound-call}
 use Rattle.ledger.specs.Ledger.{madeBy, listedBy, openedBy, inferredBy, total, doneOrTorn, insertionsDone, sidesOpened, linksInferred, countsBy}
 use Rattle.ledger.specs.Theorem.{insertionAnswers, HasLedger, LedgerOfSides}
 use Rattle.ledger.specs.PriceLaws.{Price, worth}
@@ -83,7 +84,7 @@ module _ (map : Tmesh) (sound : SoundMesh (map .mesh)) (e : Float) (con : ℕ) (
 
   result-lists : (n : ℕ) → isListed (afterInsertion map position (result .answer) (result .store)) n ≡ ((isDone (result .answer) && eqb n (storeOf map .made)) || isListed map n)
   unfolding result addControlPoint
-  result-lists = listing-call map sound e (entry (insertion con d ratio position))
+  result-lists = insertion-lists map sound e con d ratio position
 
   by-answer : (answer : InsertAnswer) (store : Store) → Booked (storeOf map) (madeBy answer) (openedBy answer) (inferredBy answer) store
       → (isRefused answer ≡ false → Grown (storeOf map) store)
@@ -113,6 +114,15 @@ record Follows (before : Mesh) (answers : List InsertAnswer) (after : Mesh) : Ty
   sound : SoundMesh after
   step : Step before (doneOrTorn answers) (insertionsDone answers) (sidesOpened answers) (linksInferred answers) after
 
+-- an answer before others: withdrawn, it is passed over and the mesh is as it was
+answer-then : (withdrawn : Bool) (before inserted : Tmesh) (answer : InsertAnswer) {answers : List InsertAnswer} {after : Mesh}
+    → Step (before .mesh) (madeBy answer) (listedBy answer) (openedBy answer) (inferredBy answer) (inserted .mesh)
+    → Follows (cond withdrawn before inserted .mesh) answers after
+    → Follows (before .mesh) (cond withdrawn answers (answer ∷ answers)) after
+unfolding total
+answer-then true before inserted answer step rest = rest
+answer-then false before inserted answer step rest = record { sound = rest .sound; step = step-then step (rest .step) }
+
 -- from the same mesh
 from-same : {before other after : Mesh} {answers : List InsertAnswer} → before ≡ other → Follows before answers after → Follows other answers after
 from-same {before} {other} {after} {answers} same ran = subst (λ (mesh : Mesh). Follows mesh answers after) same ran
@@ -121,9 +131,11 @@ follows : (e : Float) (calls : List Call) (map : Tmesh) → SoundMesh (map .mesh
     → Follows (map .mesh) (insertionAnswers (runOf e map calls)) (mapAfterAll e map (entries calls) .mesh)
 unfolding runOf mapAfterAll entries insertionAnswers total subsOf cellPoints
 follows e [] map sound = record { sound = sound; step = no-step (map .mesh) }
-follows e (insertion con d ratio position ∷ calls) map sound =
-    let rest = follows e calls (mapAfter e map (insertion con d ratio position)) (sound-call map sound e (entry (insertion con d ratio position))) in
-    record { sound = rest .sound; step = step-then (insertion-step map sound e con d ratio position) (rest .step) }
+follows e (insertion withdraws con d ratio position ∷ calls) map sound =
+    let added = addControlPoint e map con d ratio position in
+    let call = insertion withdraws con d ratio position in
+    answer-then (isWithdrawn withdraws (added .answer)) map (added .map) (added .answer) (insertion-step map sound e con d ratio position)
+    (follows e calls (mapAfter e map call) (sound-call map sound e (entry call)))
 follows e (evaluation s t ∷ calls) map sound =
     from-same (ready-mesh map sound e) (follows e calls (mapAfter e map (evaluation s t)) (sound-call map sound e (entry (evaluation s t))))
 follows e (question cell ∷ calls) map sound =
