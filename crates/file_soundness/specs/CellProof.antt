@@ -28,12 +28,13 @@ use Rattle.surface.specs.Evaluation.{withKnots}
 use Rattle.cells.specs.Cells.{cellNumber, cellPoints}
 use Rattle.cells.specs.declared.CellAnswer.{CellAnswer}
 use Rattle.cells.specs.declared.CellAnswer.the-variants.{Is, Refused}
+use Rattle.calls.specs.WithdrawalLaws.{by-either-rule}
 use Rattle.soundness.specs.IndexProof.{isWords, every-answer-says}
 use Rattle.soundness.specs.MapCalls.{entries}
 use Rattle.map_format.specs.Format.{borderAt, editsAt, editCount, Edit, editsFrom, checkedFile}
 use Rattle.map_format.specs.declared.format.FileCheck.{FileCheck}
 use Rattle.map_format.specs.declared.format.FileCheck.the-variants.{Valid, Refused as NotValid}
-use Rattle.map_file.specs.Run.{cornerOf, freshMap, edited, afterEdits, fileMap}
+use Rattle.map_file.specs.Run.{cornerOf, freshMap, edited, afterEdits, fileWithdraws, fileMap}
 use Rattle.map_file.specs.RunLaws.{none-after}
 use Rattle.map_cell.specs.FileCell.{checkedCell, fileCell}
 use Rattle.cell_bytes.specs.CellBytes.{cellBytes, bytesOfCell}
@@ -101,13 +102,14 @@ says-fits listed knots cell words says =
     }
 
 -- ---- the map that the edits leave keeps no knots
-never-kept : (e : Float) (edits : List Edit) (map : Tmesh) → map .kept ≡ false → afterEdits e map edits .kept ≡ false
+never-kept : (withdraws : Bool) (e : Float) (edits : List Edit) (map : Tmesh) → map .kept ≡ false → afterEdits withdraws e map edits .kept ≡ false
 unfolding afterEdits addControlPoint
-never-kept e [] map h = h
-never-kept e (edit ∷ rest) map h =
-    never-kept e rest (edited e map edit .map)
+never-kept withdraws e [] map h = h
+never-kept withdraws e (edit ∷ rest) map h =
+    never-kept withdraws e rest (edited withdraws e map edit .map)
     (let answer = insertPoint e (storeOf map) (isListed map (edit .point)) (edit .point) (edit .direction) (edit .ratio) .answer in
-    ap (λ (kept : Bool). keptAfter kept answer) h ∙ none-after answer)
+    by-either-rule (λ after. after .kept ≡ false) withdraws e map (edit .point) (edit .direction) (edit .ratio) (edit .position) h
+    (ap (λ (kept : Bool). keptAfter kept answer) h ∙ none-after answer))
 
 fresh-kept : (file : List ℕ) → freshMap file .kept ≡ false
 unfolding newTmesh
@@ -126,11 +128,11 @@ module _ (file : List ℕ) (cell : ℕ) (h : cell < 256) where
   map-says : (words : Cell) → cellPoints millionth (mapOf file) cell .answer ≡ Is words → SaysOf words
   map-says words is =
       subst (λ (knots : List PointKnots). Says (mapOf file .mesh .listed) knots cell words)
-      (built millionth (mapOf file) cell (never-kept millionth (editsFrom (editCount file) file editsAt) (freshMap file) (fresh-kept file)))
+      (built millionth (mapOf file) cell (never-kept (fileWithdraws file) millionth (editsFrom (editCount file) file editsAt) (freshMap file) (fresh-kept file)))
       (subst (λ (map : Tmesh). cellPoints millionth map cell .answer ≡ Is words → Says (map .mesh .listed) (cellPoints millionth map cell .map .knots) cell words)
-      (sym (edits-are-calls millionth (freshMap file) (editsFrom (editCount file) file editsAt)))
+      (sym (edits-are-calls (fileWithdraws file) millionth (freshMap file) (editsFrom (editCount file) file editsAt)))
       (every-answer-says millionth (floatAt file borderAt) (cornerOf file 0) (cornerOf file 1) (cornerOf file 2) (cornerOf file 3)
-      (entries (callsOf (editsFrom (editCount file) file editsAt)))
+      (entries (callsOf (fileWithdraws file) (editsFrom (editCount file) file editsAt)))
       millionth
       cell
       words

@@ -5,7 +5,7 @@ use mathlib.Core.Path.{_≡_, refl, sym, ap, _∙_, subst}
 use mathlib.Core.Bool.{Bool, true, false, cond}
 use mathlib.Core.List.{List, [], _∷_, _++_, append-assoc}
 use native.Mathlib.Omega.{arith}
-use lib.Dec.{T, leb, eqb, leb→le, lit<}
+use lib.Dec.{T, leb, leb→le, lit<}
 use lib.Ieee.{Float, inf, binary64, ofBits, toBits, lt, le, fits}
 use lib.Ieee.Bits.{toBits-lt}
 use lib.Ieee.Fits.{and-l, and-r, div-fits}
@@ -14,7 +14,7 @@ use Rattle.float64.specs.BitsLaws.{read-back}
 use Rattle.float64.specs.Literals.{zeroLiteral}
 use Rattle.float64.specs.Sign.{0f}
 use Rattle.float64.specs.SignLaws.{literal-zero}
-use Rattle.big_endian.specs.BigEndian.{byteAt, floatAt}
+use Rattle.big_endian.specs.BigEndian.{floatAt}
 use Rattle.big_endian.specs.ReadBackLaws.{number-back}
 use Rattle.big_endian.specs.Written.{written}
 use Rattle.big_endian.specs.WrittenLaws.{length-bytes}
@@ -36,8 +36,8 @@ use Rattle.calls.specs.FullStroke.{InUnit, Each, DoneInUnit as CallDoneInUnit, 
 use Rattle.calls.specs.FullStrokeProof.{never-past-full-stroke}
 use Rattle.mirror.specs.BoolLaws.{cond-case}
 use Rattle.soundness.specs.MapCalls.{answerTold}
-use Rattle.map_format.specs.Format.{versionAt, theVersion, borderAt, editsAt, editCount, Edit, editsFrom, lengthRight, headingsRight, checkedFile}
-use Rattle.map_file.specs.Run.{cornerOf, freshMap, edited, afterEdits, editNumbers, fileMap, checkedSetPoint, fileSetPoint}
+use Rattle.map_format.specs.Format.{borderAt, editsAt, editCount, versionOf, isVersion, Edit, editsFrom, lengthRight, headingsRight, checkedFile}
+use Rattle.map_file.specs.Run.{cornerOf, freshMap, edited, afterEdits, editAnswers, editNumbers, fileWithdraws, fileMap, fileNumbers, checkedSetPoint, fileSetPoint}
 use Rattle.map_format.specs.declared.format.FileCheck.{FileCheck}
 use Rattle.map_format.specs.declared.format.FileCheck.the-variants.{Valid, Refused as NotValid}
 use Rattle.value_bytes.specs.Value.{bitsOf, bytesOfValue}
@@ -47,36 +47,36 @@ use Rattle.file_soundness.specs.Theorems.{DoneInUnit, placeOf, mapOf, Fi
 
 -- ---- the list of calls
 -- the edits, then one evaluation
-abbrev withEvaluation : List Edit → Float → Float → List Call
-withEvaluation edits s t = callsOf edits ++ (evaluation s t ∷ [])
+abbrev withEvaluation : Bool → List Edit → Float → Float → List Call
+withEvaluation withdraws edits s t = callsOf withdraws edits ++ (evaluation s t ∷ [])
 
 abbrev isInsertion : Call → Type 0
-isInsertion (insertion con d ratio position) = Unit {0}
+isInsertion (insertion withdraws con d ratio position) = Unit {0}
 isInsertion (evaluation s t) = ⊥
 isInsertion (question cell) = ⊥
 
 abbrev positionIn : Call → Position
-positionIn (insertion con d ratio position) = position
+positionIn (insertion withdraws con d ratio position) = position
 positionIn (evaluation s t) = noPosition
 positionIn (question cell) = noPosition
 
-module _ (axis : Axis) (e s t : Float) where
-  done-calls : (edits : List Edit) (map : Tmesh) → DoneInUnit axis edits (editNumbers e map edits)
-      → Each (CallDoneInUnit axis) (runOf e map (withEvaluation edits s t))
-  unfolding editNumbers callsOf runOf
-  done-calls [] map done = ((λ con d ratio position opened links is answered. absurd (subst isInsertion (sym is) tt)), tt)
+module _ (axis : Axis) (withdraws : Bool) (e s t : Float) where
+  done-calls : (edits : List Edit) (map : Tmesh) → DoneInUnit axis edits (editNumbers withdraws e map edits)
+      → Each (CallDoneInUnit axis) (runOf e map (withEvaluation withdraws edits s t))
+  unfolding editAnswers callsOf runOf
+  done-calls [] map done = ((λ rule con d ratio position opened links is answered. absurd (subst isInsertion (sym is) tt)), tt)
   done-calls (edit ∷ rest) map done = (
-    (λ con d ratio position opened links is answered.
+    (λ rule con d ratio position opened links is answered.
         subst (λ (own : Position). InUnit (coordinate axis own)) (ap positionIn is) (done .0 (ap (λ (answer : Answer). answerTold answer .number) answered))),
-    done-calls rest (edited e map edit .map) (done .1),
+    done-calls rest (edited withdraws e map edit .map) (done .1),
   )
 
   -- what is said of the last call
-  last-call : (edits : List Edit) (map : Tmesh) → Each (EvaluationInUnit axis) (runOf e map (withEvaluation edits s t))
-      → EvaluationInUnit axis (record { call = evaluation s t; answer = evaluated (subsOf e (afterEdits e map edits) s t .answer) })
+  last-call : (edits : List Edit) (map : Tmesh) → Each (EvaluationInUnit axis) (runOf e map (withEvaluation withdraws edits s t))
+      → EvaluationInUnit axis (record { call = evaluation s t; answer = evaluated (subsOf e (afterEdits withdraws e map edits) s t .answer) })
   unfolding afterEdits callsOf runOf
   last-call [] map each = each .0
-  last-call (edit ∷ rest) map each = last-call rest (edited e map edit .map) (each .1)
+  last-call (edit ∷ rest) map each = last-call rest (edited withdraws e map edit .map) (each .1)
 
 -- ---- the answer
 abbrev isValue : EvaluationAnswer → Type 0
@@ -197,7 +197,7 @@ unfolding checkedFile
 own-count file =
     cond-case (lengthRight file) (OwnCount file) _ _
     (λ h.
-    cond-case (eqb (byteAt file versionAt) theVersion) (OwnCount file) _ _
+    cond-case (isVersion (versionOf file)) (OwnCount file) _ _
     (λ k. cond-case (headingsRight (editCount file) file editsAt) (OwnCount file) _ _ (λ l. refl) (λ l. tt))
     (λ k. tt))
     (λ h. tt)
@@ -209,20 +209,21 @@ module _ (file : List ℕ) (axis : Axis) (s t : Float) where
   module _
       (border : T (le 0f (floatAt file borderAt)))
       (corners : (k : ℕ) → k < 4 → InUnit (coordinate axis (cornerOf file k)))
-      (done : DoneInUnit axis edits (editNumbers millionth (freshMap file) edits))
+      (done : DoneInUnit axis edits (fileNumbers millionth file (editCount file)))
     where
       -- an evaluation of the map that the edits leave
       evaluated-in-unit : EvaluationInUnit axis (record { call = evaluation s t; answer = evaluated (subsOf millionth (mapOf file) s t .answer) })
       evaluated-in-unit =
-          last-call axis millionth s t edits (freshMap file)
-          (never-past-full-stroke millionth (floatAt file borderAt) (cornerOf file 0) (cornerOf file 1) (cornerOf file 2) (cornerOf file 3) axis (withEvaluation edits s t)
+          last-call axis (fileWithdraws file) millionth s t edits (freshMap file)
+          (never-past-full-stroke millionth (floatAt file borderAt) (cornerOf file 0) (cornerOf file 1) (cornerOf file 2) (cornerOf file 3) axis
+          (withEvaluation (fileWithdraws file) edits s t)
           (record {
             border = border;
             bottom-left = corners 0 (lit< tt);
             bottom-right = corners 1 (lit< tt);
             top-right = corners 2 (lit< tt);
             top-left = corners 3 (lit< tt);
-            done = done-calls axis millionth s t edits (freshMap file) done;
+            done = done-calls axis (fileWithdraws file) millionth s t edits (freshMap file) done;
           }))
 
       -- the set-point of a value

@@ -5,3 +5,4 @@ pub mod NumbersProof
 pub mod FullStrokeProof
 pub mod CellProof
 pub mod LedgerProof
+pub mod WithdrawalProof

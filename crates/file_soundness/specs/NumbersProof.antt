@@ -3,10 +3,10 @@ use Prim.Native.Nat.{ℕ}
 use mathlib.Core.Path.{_≡_, refl, subst}
 use mathlib.Core.List.{List, [], _∷_}
 use mathlib.Core.Logic.{inl, inr}
-use lib.Dec.{leb, eqb}
+use lib.Dec.{leb}
 use lib.Ieee.{Float, binary64, ofBits}
 use lib.ListN.{length}
-use Rattle.big_endian.specs.BigEndian.{byteAt, floatAt}
+use Rattle.big_endian.specs.BigEndian.{floatAt}
 use Rattle.control_point.specs.Refusal.{refusalNumber}
 use Rattle.control_point.specs.Small.{millionth}
 use Rattle.control_point.specs.declared.refusal.Refusal.{Refusal}
@@ -19,8 +19,8 @@ use Rattle.t_mesh.specs.declared.t_mesh.Tmesh.{Tmesh}
 use Rattle.soundness.specs.MapCalls.{entries}
 use Rattle.soundness.specs.Theorems.{OneOf}
 use Rattle.soundness.specs.EveryMapProof.{evaluation-refusals, question-refusals}
-use Rattle.map_format.specs.Format.{versionAt, theVersion, borderAt, editsAt, editCount, editsFrom, lengthRight, headingsRight, checkedFile}
-use Rattle.map_file.specs.Run.{cornerOf, freshMap, fileMap, checkedSetPoint, fileSetPoint}
+use Rattle.map_format.specs.Format.{borderAt, editsAt, editCount, versionOf, isVersion, editsFrom, lengthRight, headingsRight, checkedFile}
+use Rattle.map_file.specs.Run.{cornerOf, freshMap, fileWithdraws, fileMap, checkedSetPoint, fileSetPoint}
 use Rattle.map_format.specs.declared.format.FileCheck.{FileCheck}
 use Rattle.map_format.specs.declared.format.FileCheck.the-variants.{Valid, Refused}
 use Rattle.value_bytes.specs.Value.{valueBytes}
@@ -45,7 +45,7 @@ unfolding checkedFile
 check-named file =
     cond-case (lengthRight file) NamedCheck _ _
     (λ h.
-    cond-case (eqb (byteAt file versionAt) theVersion) NamedCheck _ _
+    cond-case (isVersion (versionOf file)) NamedCheck _ _
     (λ k. cond-case (headingsRight (editCount file) file editsAt) NamedCheck _ _ (λ l. tt) (λ l. inr (inr (inl refl))))
     (λ k. inr (inl refl)))
     (λ h. inl refl)
@@ -81,8 +81,8 @@ file-named : (file : List ℕ) (s t : Float) (check : FileCheck) → NamedCheck 
 file-named file s t (Valid count) named =
     answer-named (subsOf millionth (fileMap millionth file count) s t .answer)
     (λ refusal is.
-    evaluation-refusals millionth (floatAt file borderAt) (cornerOf file 0) (cornerOf file 1) (cornerOf file 2) (cornerOf file 3) (entries (callsOf (editsFrom count file editsAt))) millionth s t refusal
-    (subst (λ (map : Tmesh). subsOf millionth map s t .answer ≡ NoValue refusal) (edits-are-calls millionth (freshMap file) (editsFrom count file editsAt)) is))
+    evaluation-refusals millionth (floatAt file borderAt) (cornerOf file 0) (cornerOf file 1) (cornerOf file 2) (cornerOf file 3) (entries (callsOf (fileWithdraws file) (editsFrom count file editsAt))) millionth s t refusal
+    (subst (λ (map : Tmesh). subsOf millionth map s t .answer ≡ NoValue refusal) (edits-are-calls (fileWithdraws file) millionth (freshMap file) (editsFrom count file editsAt)) is))
 file-named file s t (Refused refusal) named = of-file (refusalNumber refusal) named
 
 pub numbers-named : NumbersNamed
@@ -114,8 +114,8 @@ cell-named : (file : List ℕ) (cell : ℕ) (check : FileCheck) → NamedCheck c
 cell-named file cell (Valid count) named =
     words-named (cellPoints millionth (fileMap millionth file count) cell .answer)
     (λ refusal is.
-    question-refusals millionth (floatAt file borderAt) (cornerOf file 0) (cornerOf file 1) (cornerOf file 2) (cornerOf file 3) (entries (callsOf (editsFrom count file editsAt))) millionth cell refusal
-    (subst (λ (map : Tmesh). cellPoints millionth map cell .answer ≡ NoWords refusal) (edits-are-calls millionth (freshMap file) (editsFrom count file editsAt)) is))
+    question-refusals millionth (floatAt file borderAt) (cornerOf file 0) (cornerOf file 1) (cornerOf file 2) (cornerOf file 3) (entries (callsOf (fileWithdraws file) (editsFrom count file editsAt))) millionth cell refusal
+    (subst (λ (map : Tmesh). cellPoints millionth map cell .answer ≡ NoWords refusal) (edits-are-calls (fileWithdraws file) millionth (freshMap file) (editsFrom count file editsAt)) is))
 cell-named file cell (Refused refusal) named = of-check refusal named
 
 pub cell-numbers-named : CellNumbersNamed

@@ -1,0 +1,70 @@
+-- Withdrawn edits leave no trace: a withdrawn edit leaves the map before it, and one that is not torn leaves the same map by either rule. As many points are listed as made: the
+-- ledger of a file that withdraws has no torn edit, so that each point made is that of an edit done.
+use Prim.Native.Nat.{ℕ, _+_}
+use mathlib.Core.Path.{_≡_, refl, sym, ap, _∙_, subst}
+use mathlib.Core.Bool.{Bool, true, false, cond}
+use mathlib.Core.List.{List, [], _∷_}
+use native.Mathlib.Omega.{arith}
+use lib.Ieee.{Float}
+use Rattle.insertion.specs.Insert.{isTorn}
+use Rattle.insertion.specs.WithdrawalLaws.{untorn-stands}
+use Rattle.insertion.specs.declared.insertion.InsertAnswer.{InsertAnswer}
+use Rattle.insertion.specs.declared.insertion.InsertAnswer.the-variants.{Done, Torn, Refused}
+use Rattle.t_mesh.specs.declared.t_mesh.Tmesh.{Tmesh}
+use Rattle.census.specs.declared.census.Counts.{Counts}
+use Rattle.ledger.specs.Ledger.{entered, total, doneOrTorn, insertionsDone}
+use Rattle.map_format.specs.Format.{Edit}
+use Rattle.map_file.specs.Run.{edited, afterEdits, fileAnswers}
+use Rattle.file_soundness.specs.LedgerProof.{file-ledger}
+use Rattle.file_soundness.specs.Theorems.{untorn, WithdrawnLeaveNoTrace, AllMadeAreListed}
+
+-- ---- no trace
+module _ (withdraws : Bool) (e : Float) where
+  -- what the theorem says of a list, from every map
+  abbrev NoTrace : List Edit → Type 0
+  NoTrace edits = (before : Tmesh) → afterEdits true e before edits ≡ afterEdits withdraws e before (untorn e before edits)
+
+  -- an edit before others
+  module _ (before : Tmesh) (edit : Edit) where
+    abbrev torn : Bool
+    torn = isTorn (edited true e before edit .answer)
+
+    -- the map that it leaves where torn edits stay
+    abbrev after : Tmesh
+    after = edited false e before edit .map
+
+    -- not torn, it leaves that one by either rule
+    stands : torn ≡ false → edited withdraws e before edit .map ≡ after
+    stands is = ap (λ (withdrawn : Bool). cond withdrawn before after) (untorn-stands withdraws (edited true e before edit .answer) is)
+
+    by-torn : (rest : List Edit) → NoTrace rest → (b : Bool) → torn ≡ b
+        → afterEdits true e (cond b before after) rest
+        ≡ afterEdits withdraws e before (cond b (untorn e before rest) (edit ∷ untorn e (cond b before after) rest))
+    unfolding afterEdits
+    by-torn rest none true is = none before
+    by-torn rest none false is = none after ∙ ap (λ (map : Tmesh). afterEdits withdraws e map (untorn e after rest)) (sym (stands is))
+
+  no-trace : (edits : List Edit) → NoTrace edits
+  unfolding afterEdits untorn
+  no-trace [] before = refl
+  no-trace (edit ∷ rest) before = by-torn before edit rest (no-trace rest) (torn before edit) refl
+
+pub withdrawn-leave-no-trace : WithdrawnLeaveNoTrace
+withdrawn-leave-no-trace withdraws e before edits = no-trace withdraws e edits before
+
+-- ---- as many listed as made
+-- no torn answer is entered where torn insertions are withdrawn
+none-torn : (answers : List InsertAnswer) → doneOrTorn (entered true answers) ≡ insertionsDone (entered true answers)
+unfolding entered total
+none-torn [] = refl
+none-torn (Done opened inferred ∷ rest) = omega (arith, none-torn rest)
+none-torn (Torn opened inferred ∷ rest) = none-torn rest
+none-torn (Refused refusal ∷ rest) = omega (arith, none-torn rest)
+
+pub all-made-are-listed : AllMadeAreListed
+all-made-are-listed e file count withdraws =
+    let counts = file-ledger e file count .counts in
+    let answers = fileAnswers e file count in
+    ap (λ (counted : Counts). counted .made) counts
+    ∙ ap (λ (n : ℕ). 4 + n) (subst (λ (rule : Bool). doneOrTorn (entered rule answers) ≡ insertionsDone (entered rule answers)) (sym withdraws) (none-torn answers))
+    ∙ sym (ap (λ (counted : Counts). counted .listed) counts)
