@@ -22,7 +22,7 @@ use Rattle.soundness.specs.Theorems.{OneOf}
 use Rattle.ledger.specs.Ledger.{entered, countsBy, openingsBy}
 use Rattle.ledger.specs.Theorem.{HasLedger}
 use Rattle.map_format.specs.Format.{borderAt, editsAt, editCount, Edit, editsFrom, checkedFile}
-use Rattle.map_file.specs.Run.{cornerOf, edited, afterEdits, fileWithdraws, fileMap, fileAnswers, fileNumbers}
+use Rattle.map_file.specs.Run.{cornerOf, edited, afterEdits, editAnswers, fileWithdraws, fileMap, fileAnswers, fileNumbers}
 use Rattle.map_format.specs.declared.format.FileCheck.the-variants.{Valid, Refused}
 use Rattle.report_text.specs.Text.{fileWord, newline, refusedText}
 use Rattle.openings.specs.Openings.{openingsOf}
@@ -140,10 +140,13 @@ untorn e before [] = []
 untorn e before (edit ∷ rest) =
     cond (isTorn (edited true e before edit .answer)) (untorn e before rest) (edit ∷ untorn e (edited true e before edit .map) rest)
 
--- Where torn edits are withdrawn, a list of edits leaves the map that its edits that are not torn leave by themselves, by either rule.
+-- Where torn edits are withdrawn, a list of edits leaves the map that its edits that are not torn leave by themselves, by either rule, and these answer the same by
+-- themselves.
 abbrev pub WithdrawnLeaveNoTrace : Type 0
 WithdrawnLeaveNoTrace =
-    (withdraws : Bool) (e : Float) (before : Tmesh) (edits : List Edit) → afterEdits true e before edits ≡ afterEdits withdraws e before (untorn e before edits)
+    (withdraws : Bool) (e : Float) (before : Tmesh) (edits : List Edit)
+    → (afterEdits true e before edits ≡ afterEdits withdraws e before (untorn e before edits))
+    × (entered true (editAnswers true e before edits) ≡ editAnswers withdraws e before (untorn e before edits))
 
 -- A file whose torn edits are withdrawn leaves as many points listed as made.
 abbrev pub AllMadeAreListed : Type 0

@@ -14,43 +14,62 @@ use Rattle.t_mesh.specs.declared.t_mesh.Tmesh.{Tmesh}
 use Rattle.census.specs.declared.census.Counts.{Counts}
 use Rattle.ledger.specs.Ledger.{entered, total, doneOrTorn, insertionsDone}
 use Rattle.map_format.specs.Format.{Edit}
-use Rattle.map_file.specs.Run.{edited, afterEdits, fileAnswers}
+use Rattle.map_file.specs.Run.{edited, afterEdits, editAnswers, fileAnswers}
 use Rattle.file_soundness.specs.LedgerProof.{file-ledger}
 use Rattle.file_soundness.specs.Theorems.{untorn, WithdrawnLeaveNoTrace, AllMadeAreListed}
 
 -- ---- no trace
 module _ (withdraws : Bool) (e : Float) where
   -- what the theorem says of a list, from every map
-  abbrev NoTrace : List Edit → Type 0
-  NoTrace edits = (before : Tmesh) → afterEdits true e before edits ≡ afterEdits withdraws e before (untorn e before edits)
+  abbrev SameMap : List Edit → Type 0
+  SameMap edits = (before : Tmesh) → afterEdits true e before edits ≡ afterEdits withdraws e before (untorn e before edits)
+
+  abbrev SameAnswers : List Edit → Type 0
+  SameAnswers edits = (before : Tmesh) → entered true (editAnswers true e before edits) ≡ editAnswers withdraws e before (untorn e before edits)
 
   -- an edit before others
   module _ (before : Tmesh) (edit : Edit) where
-    abbrev torn : Bool
-    torn = isTorn (edited true e before edit .answer)
+    abbrev answer : InsertAnswer
+    answer = edited true e before edit .answer
 
     -- the map that it leaves where torn edits stay
     abbrev after : Tmesh
     after = edited false e before edit .map
 
     -- not torn, it leaves that one by either rule
-    stands : torn ≡ false → edited withdraws e before edit .map ≡ after
-    stands is = ap (λ (withdrawn : Bool). cond withdrawn before after) (untorn-stands withdraws (edited true e before edit .answer) is)
+    stands : isTorn answer ≡ false → edited withdraws e before edit .map ≡ after
+    stands is = ap (λ (withdrawn : Bool). cond withdrawn before after) (untorn-stands withdraws answer is)
 
-    by-torn : (rest : List Edit) → NoTrace rest → (b : Bool) → torn ≡ b
-        → afterEdits true e (cond b before after) rest
-        ≡ afterEdits withdraws e before (cond b (untorn e before rest) (edit ∷ untorn e (cond b before after) rest))
+    -- the edits that are left of it and the rest
+    abbrev left : Bool → List Edit → List Edit
+    left torn rest = cond torn (untorn e before rest) (edit ∷ untorn e (cond torn before after) rest)
+
+    map-by : (rest : List Edit) → SameMap rest → (torn : Bool) → isTorn answer ≡ torn
+        → afterEdits true e (cond torn before after) rest ≡ afterEdits withdraws e before (left torn rest)
     unfolding afterEdits
-    by-torn rest none true is = none before
-    by-torn rest none false is = none after ∙ ap (λ (map : Tmesh). afterEdits withdraws e map (untorn e after rest)) (sym (stands is))
+    map-by rest same true is = same before
+    map-by rest same false is = same after ∙ ap (λ (map : Tmesh). afterEdits withdraws e map (untorn e after rest)) (sym (stands is))
 
-  no-trace : (edits : List Edit) → NoTrace edits
+    answers-by : (rest : List Edit) → SameAnswers rest → (torn : Bool) → isTorn answer ≡ torn
+        → let others = entered true (editAnswers true e (cond torn before after) rest) in
+        cond torn others (answer ∷ others) ≡ editAnswers withdraws e before (left torn rest)
+    unfolding editAnswers
+    answers-by rest same true is = same before
+    answers-by rest same false is =
+        ap (λ (answers : List InsertAnswer). answer ∷ answers) (same after ∙ ap (λ (map : Tmesh). editAnswers withdraws e map (untorn e after rest)) (sym (stands is)))
+
+  same-map : (edits : List Edit) → SameMap edits
   unfolding afterEdits untorn
-  no-trace [] before = refl
-  no-trace (edit ∷ rest) before = by-torn before edit rest (no-trace rest) (torn before edit) refl
+  same-map [] before = refl
+  same-map (edit ∷ rest) before = map-by before edit rest (same-map rest) (isTorn (answer before edit)) refl
+
+  same-answers : (edits : List Edit) → SameAnswers edits
+  unfolding editAnswers entered untorn
+  same-answers [] before = refl
+  same-answers (edit ∷ rest) before = answers-by before edit rest (same-answers rest) (isTorn (answer before edit)) refl
 
 pub withdrawn-leave-no-trace : WithdrawnLeaveNoTrace
-withdrawn-leave-no-trace withdraws e before edits = no-trace withdraws e edits before
+withdrawn-leave-no-trace withdraws e before edits = (same-map withdraws e edits before, same-answers withdraws e edits before)
 
 -- ---- as many listed as made
 -- no torn answer is entered where torn insertions are withdrawn
