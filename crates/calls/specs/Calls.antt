@@ -35,13 +35,13 @@ withdraws (question cell) = false
 
 -- what a call on a map answers, with closeness e
 abbrev pub answerTo : Float → Tmesh → Call → Answer
-answerTo e map (insertion withdraws con d ratio position) = inserted (addByRule withdraws e map con d ratio position .answer)
+answerTo e map (insertion rule con d ratio position) = inserted (addByRule rule e map con d ratio position .answer)
 answerTo e map (evaluation s t) = evaluated (subsOf e map s t .answer)
 answerTo e map (question cell) = questioned (cellPoints e map cell .answer)
 
 -- the map after it
 abbrev pub mapAfter : Float → Tmesh → Call → Tmesh
-mapAfter e map (insertion withdraws con d ratio position) = addByRule withdraws e map con d ratio position .map
+mapAfter e map (insertion rule con d ratio position) = addByRule rule e map con d ratio position .map
 mapAfter e map (evaluation s t) = subsOf e map s t .map
 mapAfter e map (question cell) = cellPoints e map cell .map
 

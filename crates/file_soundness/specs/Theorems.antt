@@ -149,6 +149,6 @@ WithdrawnLeaveNoTrace =
     × (entered true (editAnswers true e before edits) ≡ editAnswers withdraws e before (untorn e before edits))
 
 -- A file whose torn edits are withdrawn leaves as many points listed as made.
-abbrev pub AllMadeAreListed : Type 0
-AllMadeAreListed =
+abbrev pub AsManyListedAsMade : Type 0
+AsManyListedAsMade =
     (e : Float) (file : List ℕ) (count : ℕ) → fileWithdraws file ≡ true → countsOf (fileMap e file count) .made ≡ countsOf (fileMap e file count) .listed

@@ -16,7 +16,7 @@ use Rattle.ledger.specs.Ledger.{entered, total, doneOrTorn, insertionsDone}
 use Rattle.map_format.specs.Format.{Edit}
 use Rattle.map_file.specs.Run.{edited, afterEdits, editAnswers, fileAnswers}
 use Rattle.file_soundness.specs.LedgerProof.{file-ledger}
-use Rattle.file_soundness.specs.Theorems.{untorn, WithdrawnLeaveNoTrace, AllMadeAreListed}
+use Rattle.file_soundness.specs.Theorems.{untorn, WithdrawnLeaveNoTrace, AsManyListedAsMade}
 
 -- ---- no trace
 module _ (withdraws : Bool) (e : Float) where
@@ -80,8 +80,8 @@ none-torn (Done opened inferred ∷ rest) = omega (arith, none-torn rest)
 none-torn (Torn opened inferred ∷ rest) = none-torn rest
 none-torn (Refused refusal ∷ rest) = omega (arith, none-torn rest)
 
-pub all-made-are-listed : AllMadeAreListed
-all-made-are-listed e file count withdraws =
+pub as-many-listed-as-made : AsManyListedAsMade
+as-many-listed-as-made e file count withdraws =
     let counts = file-ledger e file count .counts in
     let answers = fileAnswers e file count in
     ap (λ (counted : Counts). counted .made) counts

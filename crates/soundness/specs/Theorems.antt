@@ -80,7 +80,7 @@ ListingGrows =
     → isListed (afterCall e map call) n ≡ ((addsPoint e map call && eqb n (storeOf map .made)) || isListed map n))
 
 -- ---- refusals
--- On every map: a call that is refused leaves the map as it was, the kept knots and their index too; by 8, torn, where it withdraws torn insertions.
+-- On every map: a call that is refused leaves the map as it was, the kept knots and their index too; one that is torn, 8, does so where it withdraws torn insertions.
 abbrev pub RefusedKeepsMap : Type 0
 RefusedKeepsMap =
     (e : Float) (map : Tmesh) (call : MapCall) → (numberTo e map call ≡ 0 → ⊥) → (numberTo e map call ≡ 8 → callWithdraws call ≡ true) → afterCall e map call ≡ map
