@@ -1,6 +1,6 @@
 //! The bound from 0 to 1, tried with hostile numbers on the published Rust, on the reading and on the proved program: borders 0, -0.0, subnormal, largest and
-//! infinite, subnormal ratios, positions at the ends of 0 to 1 and one float beside, anything on the other axes and for points that are refused or torn, and
-//! parameters on knots and one float beside. It guards the statement of the bound against a wrong reading; what is proved it cannot find.
+//! infinite, subnormal ratios, positions at the ends of 0 to 1 and one float beside, anything on the other axes and for points that are refused, torn or
+//! withdrawn, and parameters on knots and one float beside. It guards the statement of the bound against a wrong reading; what is proved it cannot find.
 use crate::draw::{MapList, Ratios, place, ratio};
 use crate::map_calls::{MapAnswer, MapCall};
 use crate::random::Random;
@@ -84,7 +84,8 @@ pub fn list(random: &mut Random, tried: &mut Tried) -> MapList {
         let ratio = if random.one_in(6) { random.of(&SMALLEST_RATIOS) } else { ratio(random, ratios) };
         let done = matches!(list.maps.reading.clone().add_control_point([0.0; 3], con, direction, ratio), Insertion::Done(_));
         let position = position(random, if done { axes } else { [false; 3] });
-        list.call(MapCall::Insert { con, direction, ratio, position });
+        let withdraws = random.one_in(2);
+        list.call(MapCall::Insert { withdraws, con, direction, ratio, position });
         if random.one_in(4) {
             evaluate(&mut list, random, &[], axes, tried);
         }

@@ -1,25 +1,53 @@
 //! The published Rust held against the reading on many random maps: every outcome, the whole store, the listing, walks, rays, knots,
 //! evaluations, cells and counts. The first difference stops the run.
 use crate::calls::Call;
-use crate::draw::{MapList, Plan, cell, full_map, map};
+use crate::draw::{MapList, Plan, Withdrawing, cell, full_map, map};
 use crate::map_calls::{MapAnswer, MapCall};
 use crate::random::Random;
-use crate::reading::Insertion;
+use crate::reading::{Insertion, RING};
 
-/// How often each answer occurs, by kind of call; the links inferred, the openings, the values with a positive and finite weight, the cells that
-/// a listed point misses, and those that one of number 64 or more reaches.
+/// How often each answer occurs, by kind of call; the links inferred, the insertions withdrawn, the openings, the values with a positive and finite
+/// weight, the cells that a listed point misses, and those that one of number 64 or more reaches.
 #[derive(Default)]
 pub struct Tally {
-    answers: [[u64; 16]; 12],
+    answers: [[u64; 16]; 13],
     openings: u64,
     inferred: u64,
+    withdrawn: Withdrawn,
     weighty: u64,
     missed: u64,
     second_words: u64,
 }
 
-const WORDS: [&str; 12] = [
+/// Insertions that were withdrawn, those of them that had inferred a link, and those that were torn by a ring.
+#[derive(Default)]
+pub struct Withdrawn {
+    all: u64,
+    inferred: u64,
+    by_rings: u64,
+}
+
+impl Withdrawn {
+    /// Counts an insertion that is withdrawn where it is torn.
+    pub fn count(&mut self, answer: &Insertion) {
+        if let Insertion::Torn(counts, met) = answer {
+            self.all += 1;
+            self.inferred += (counts.inferred > 0) as u64;
+            self.by_rings += (*met == RING) as u64;
+        }
+    }
+
+    pub fn print(&self) {
+        println!(
+            "withdrawn: {}, of them {} after a link was inferred and {} torn by a ring, where the published Rust is not asked",
+            self.all, self.inferred, self.by_rings
+        );
+    }
+}
+
+const WORDS: [&str; 13] = [
     "insertion",
+    "withdrawing",
     "ray",
     "knots",
     "evaluation",
@@ -36,20 +64,23 @@ const WORDS: [&str; 12] = [
 impl Tally {
     pub fn count(&mut self, call: MapCall, answer: &MapAnswer) {
         let kind = match call {
-            MapCall::Insert { .. } => 0,
-            MapCall::Ray { .. } => 1,
-            MapCall::Knots { .. } => 2,
-            MapCall::Evaluate { .. } => 3,
-            MapCall::Generate => 4,
-            MapCall::Openings => 5,
-            MapCall::Lend { .. } => 6,
-            MapCall::SetPoint { .. } => 7,
-            MapCall::CellPoints { .. } => 8,
-            MapCall::Counts => 9,
-            MapCall::Direct(Call::Navigate(..)) => 11,
-            MapCall::Direct(_) => 10,
+            MapCall::Insert { withdraws, .. } => withdraws as usize,
+            MapCall::Ray { .. } => 2,
+            MapCall::Knots { .. } => 3,
+            MapCall::Evaluate { .. } => 4,
+            MapCall::Generate => 5,
+            MapCall::Openings => 6,
+            MapCall::Lend { .. } => 7,
+            MapCall::SetPoint { .. } => 8,
+            MapCall::CellPoints { .. } => 9,
+            MapCall::Counts => 10,
+            MapCall::Direct(Call::Navigate(..)) => 12,
+            MapCall::Direct(_) => 11,
         };
         self.answers[kind][answer.number() as usize] += 1;
+        if let (MapCall::Insert { withdraws: true, .. }, MapAnswer::Inserted(answer)) = (call, answer) {
+            self.withdrawn.count(answer);
+        }
         match answer {
             MapAnswer::Inserted(Insertion::Done(counts) | Insertion::Torn(counts, _)) => self.inferred += counts.inferred as u64,
             MapAnswer::Opened(openings) => self.openings += openings.len() as u64,
@@ -68,6 +99,7 @@ impl Tally {
                 row.iter().enumerate().filter(|(_, n)| **n > 0).map(|(number, n)| format!("{number}: {n}")).collect();
             println!("{word:12} {}", counts.join(", "));
         }
+        self.withdrawn.print();
         println!(
             "links inferred: {}; openings: {}; values with a positive and finite weight: {}",
             self.inferred, self.openings, self.weighty
@@ -104,11 +136,12 @@ pub fn run(seed: u64, maps: usize) {
     let mut tally = Tally::default();
     let mut left_behind = 0;
     for place in 0..maps {
+        let withdrawing = Withdrawing::of(place);
         let mut list = if place % 50 == 0 {
-            full_map(&mut random)
+            full_map(&mut random, withdrawing)
         } else {
             let edits = random.of(&[3, 6, 10, 20, 40]);
-            let plan = Plan { edits: random.below(edits) + 1, questions: true, direct_calls: place % 10 == 0 };
+            let plan = Plan { edits: random.below(edits) + 1, questions: true, direct_calls: place % 10 == 0, withdrawing };
             map(&mut random, plan)
         };
         list.calls.iter().for_each(|(call, answer)| tally.count(*call, answer));

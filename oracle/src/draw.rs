@@ -40,8 +40,16 @@ impl MapList {
     }
 
     pub fn insert(&mut self, random: &mut Random, con: u8, direction: usize, ratio: f64) -> MapAnswer {
+        self.insert_by_rule(random, false, con, direction, ratio)
+    }
+
+    pub fn insert_or_withdraw(&mut self, random: &mut Random, con: u8, direction: usize, ratio: f64) -> MapAnswer {
+        self.insert_by_rule(random, true, con, direction, ratio)
+    }
+
+    pub fn insert_by_rule(&mut self, random: &mut Random, withdraws: bool, con: u8, direction: usize, ratio: f64) -> MapAnswer {
         let position = position(random);
-        self.call(MapCall::Insert { con, direction, ratio, position })
+        self.call(MapCall::Insert { withdraws, con, direction, ratio, position })
     }
 }
 
@@ -98,6 +106,45 @@ pub fn place(random: &mut Random, maps: &Maps) -> (u8, usize) {
         found = (random.of(listed), random.below(4));
     }
     found
+}
+
+/// Which insertions of a map are withdrawn where they are torn.
+#[derive(Clone, Copy, PartialEq)]
+pub enum Withdrawing {
+    Never,
+    AtTimes,
+    Always,
+}
+
+impl Withdrawing {
+    /// Of the maps drawn one after the other, every third has some that are.
+    pub fn of(place: usize) -> Withdrawing {
+        if place % 3 == 2 { Withdrawing::AtTimes } else { Withdrawing::Never }
+    }
+
+    /// Whether the next insertion is.
+    fn next(self, random: &mut Random) -> bool {
+        match self {
+            Withdrawing::Never => false,
+            Withdrawing::AtTimes => random.one_in(2),
+            Withdrawing::Always => true,
+        }
+    }
+}
+
+/// How many places are tried to find one where an insertion is torn.
+const TRIES: usize = 20;
+
+/// A place and a ratio at which an insertion is torn, where some draws find them.
+fn torn_edit(random: &mut Random, maps: &Maps) -> Option<(u8, usize, f64)> {
+    let draw = |_| {
+        let (con, direction) = place(random, maps);
+        (con, direction, random.of(&[0.0, -0.0, 1e-7, 5e-7, 0.9999999, 1.0]))
+    };
+    let is_torn = |&(con, direction, ratio): &(u8, usize, f64)| {
+        maps.reading.clone().add_control_point([0.0; 3], con, direction, ratio).number() == TORN
+    };
+    (0..TRIES).map(draw).find(is_torn)
 }
 
 /// A direct call on a map's points: a link cut, joined again at some interval, a weight set, a border opened, a point made alone, its coordinates set.
@@ -164,6 +211,15 @@ pub fn question(random: &mut Random, map: &Map) -> MapCall {
     }
 }
 
+/// An insertion where it was drawn, at a point, in a direction, at a ratio. Of a map with withdrawn insertions one in three is made where it is
+/// torn instead.
+fn insert_drawn(list: &mut MapList, random: &mut Random, withdrawing: Withdrawing, drawn: (u8, usize, f64)) -> MapAnswer {
+    let tears = withdrawing != Withdrawing::Never && random.one_in(3);
+    let (con, direction, ratio) = if tears { torn_edit(random, &list.maps).unwrap_or(drawn) } else { drawn };
+    let withdraws = withdrawing.next(random);
+    list.insert_by_rule(random, withdraws, con, direction, ratio)
+}
+
 /// What a map is drawn for.
 #[derive(Clone, Copy)]
 pub struct Plan {
@@ -171,9 +227,10 @@ pub struct Plan {
     /// Whether the whole map is asked in between: for a value, its openings, its counts, the knots of all points, a cell.
     pub questions: bool,
     pub direct_calls: bool,
+    pub withdrawing: Withdrawing,
 }
 
-/// A map after random edits, asked in between and most often after torn ones, which keep the knots. A cell is asked for before and after an edit,
+/// A map after random edits, asked in between and most often after torn ones, which keep the knots, stay or not. A cell is asked for before and after an edit,
 /// and after a direct call that follows it.
 pub fn map(random: &mut Random, plan: Plan) -> MapList {
     let corners = std::array::from_fn(|_| position(random));
@@ -182,7 +239,8 @@ pub fn map(random: &mut Random, plan: Plan) -> MapList {
         let prefix = random.of(&RING_PREFIXES);
         let length = if random.one_in(2) { prefix.len() } else { random.below(prefix.len()) };
         for &(con, direction, ratio) in &prefix[..length] {
-            list.insert(random, con, direction, ratio);
+            let withdraws = plan.withdrawing.next(random);
+            list.insert_by_rule(random, withdraws, con, direction, ratio);
         }
     }
     let ratios = random.of(&[
@@ -198,7 +256,7 @@ pub fn map(random: &mut Random, plan: Plan) -> MapList {
         list.ask(cell);
         let (con, direction) = place(random, &list.maps);
         let ratio = ratio(random, ratios);
-        let torn = list.insert(random, con, direction, ratio).number() == TORN;
+        let torn = insert_drawn(&mut list, random, plan.withdrawing, (con, direction, ratio)).number() == TORN;
         if plan.questions && (random.one_in(8) || torn && random.one_in(2)) {
             let question = question(random, &list.maps.reading);
             list.call(question);
@@ -223,14 +281,14 @@ pub fn map(random: &mut Random, plan: Plan) -> MapList {
 }
 
 /// A map whose store is filled, and edits beyond.
-pub fn full_map(random: &mut Random) -> MapList {
-    let plan = Plan { edits: 100, questions: false, direct_calls: false };
+pub fn full_map(random: &mut Random, withdrawing: Withdrawing) -> MapList {
+    let plan = Plan { edits: 100, questions: false, direct_calls: false, withdrawing };
     let mut list = map(random, plan);
     let mut edits = 0;
     while edits < 600 && (list.maps.made() < CAPACITY || edits % 4 != 0) {
         let (con, direction) = place(random, &list.maps);
         let ratio = random.of(&[0.25, 0.5, 0.75]);
-        list.insert(random, con, direction, ratio);
+        insert_drawn(&mut list, random, withdrawing, (con, direction, ratio));
         edits += 1;
     }
     list

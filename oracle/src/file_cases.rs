@@ -1,18 +1,23 @@
-//! Map files, each with the whole text that the program prints of it and what the C calls answer at some places and cells.
+//! Map files of both versions, each with the whole text that the program prints of it and what the C calls answer at some places and cells.
 use crate::bytes::Bytes;
-use crate::draw::{MapList, Plan, RING_PREFIXES, cell, evaluation, full_map, map, position};
+use crate::compare::Withdrawn;
+use crate::draw::{MapList, Plan, RING_PREFIXES, Withdrawing, cell, evaluation, full_map, map, position};
 use crate::map_calls::{MapAnswer, MapCall, put_cell};
-use crate::map_cases::{AROUND_TWICE, AT_THE_CAPS, SQUARE};
+use crate::map_cases::{AROUND_TWICE, AT_THE_CAPS, SQUARE, WITHDRAWN};
 use crate::map_file::{
-    CELL_BYTES, COUNT_BYTES, EDIT_BYTES, Edit, HEAD_BYTES, MOST_EDITS, MapFile, Run, VALUE_BYTES, bytes_of, host_answer, host_cell, read,
-    run, text,
+    CELL_BYTES, COUNT_BYTES, EDIT_BYTES, Edit, HEAD_BYTES, MOST_EDITS, MapFile, Run, SAMPLES, VALUE_BYTES, VERSIONS, bytes_of,
+    host_answer, host_cell, read, run, sample, text,
 };
 use crate::random::Random;
-use crate::reading::{DOWN, Insertion, LEFT, NO_WEIGHT, OPEN_SIDE, RIGHT, RING, UP};
+use crate::reading::{BORDER, DOWN, Insertion, LEFT, NO_WEIGHT, OPEN_SIDE, RIGHT, RING, UP};
 
-const DRAWN: usize = 320;
-const REFUSED_EVALUATIONS: usize = 8;
-const FULL_STORES: usize = 4;
+/// How many are drawn of version 1 and of version 2.
+const DRAWN: [usize; 2] = [320, 72];
+const REFUSED_EVALUATIONS: [usize; 2] = [8, 4];
+const FULL_STORES: [usize; 2] = [4, 1];
+
+/// How many full stores there are in both versions.
+const FULL_TWINS: usize = 2;
 
 /// What every byte of a C call's buffer is before the call, and all that a refusal leaves in it.
 const FILLER: u8 = 0xa5;
@@ -58,6 +63,17 @@ const BORDER_MET: &[(u8, usize, f64)] = &[
     (9, RIGHT, 0.5),
 ];
 
+/// Edits after which a ray walks over a border where the first, which is torn, is withdrawn.
+const BORDER_MET_UNTORN: &[(u8, usize, f64)] = &[
+    (0, RIGHT, 0.0),
+    (3, RIGHT, 0.75),
+    (1, UP, 0.5),
+    (3, RIGHT, 0.0),
+    (4, LEFT, 0.250001),
+    (3, DOWN, 0.5),
+    (5, LEFT, 0.250001),
+];
+
 /// A file, what it is kept for, and the C calls made with it: s, t and the length of the buffer; a cell and the length of the buffer.
 pub struct Case {
     kind: &'static str,
@@ -74,12 +90,22 @@ fn insertions(random: &mut Random, edits: &[(u8, usize, f64)]) -> Vec<Edit> {
 }
 
 /// The square map with border 1.0 and some edits.
-fn square(random: &mut Random, edits: &[(u8, usize, f64)]) -> MapFile {
-    MapFile { border: 1.0, corners: SQUARE, edits: insertions(random, edits) }
+fn square(random: &mut Random, version: u8, edits: &[(u8, usize, f64)]) -> MapFile {
+    MapFile { version, border: 1.0, corners: SQUARE, edits: insertions(random, edits) }
+}
+
+/// What there is of a version, of values for version 1 and for version 2.
+fn of_version<T: Copy>(version: u8, values: [T; 2]) -> T {
+    values[version as usize - 1]
+}
+
+/// Which edits of a version are withdrawn where they are torn.
+fn withdrawing(version: u8) -> Withdrawing {
+    of_version(version, [Withdrawing::Never, Withdrawing::Always])
 }
 
 /// The readings that the description of the behaviour works out.
-fn worked_examples(random: &mut Random) -> Vec<Vec<u8>> {
+fn worked_examples(random: &mut Random, version: u8) -> Vec<Vec<u8>> {
     let lists: [&[(u8, usize, f64)]; 8] = [
         &[],
         &[(0, RIGHT, 2.0)],
@@ -90,18 +116,18 @@ fn worked_examples(random: &mut Random) -> Vec<Vec<u8>> {
         &[(0, LEFT, 0.5)],
         &[(0, RIGHT, 0.5), (3, RIGHT, 0.5), (0, UP, 0.5), (1, UP, 0.5), (4, UP, 0.5)],
     ];
-    lists.iter().map(|edits| bytes_of(&square(random, edits))).collect()
+    lists.iter().map(|edits| bytes_of(&square(random, version, edits))).collect()
 }
 
 /// Edits that lead to rings, and those after which a cap decides.
-fn rings(random: &mut Random) -> Vec<Vec<u8>> {
+fn rings(random: &mut Random, version: u8) -> Vec<Vec<u8>> {
     let lists = RING_PREFIXES.iter().chain(&AT_THE_CAPS).chain([&AROUND_TWICE]);
-    lists.map(|edits| bytes_of(&square(random, edits))).collect()
+    lists.map(|edits| bytes_of(&square(random, version, edits))).collect()
 }
 
 /// Lines across the whole map: each column is two edits, the second of which infers its link, and a row's last edit infers on
 /// both sides.
-fn grids(random: &mut Random) -> Vec<Vec<u8>> {
+fn grids(random: &mut Random, version: u8) -> Vec<Vec<u8>> {
     let mut files = Vec::new();
     for columns in 1..=6 {
         let mut edits = Vec::new();
@@ -113,38 +139,47 @@ fn grids(random: &mut Random) -> Vec<Vec<u8>> {
         }
         edits.extend([(0, UP, 0.5), (2, DOWN, 0.5)]);
         edits.extend((0..columns).map(|column| (4 + 2 * column as u8, UP, 0.5)));
-        files.push(bytes_of(&square(random, &edits)));
+        files.push(bytes_of(&square(random, version, &edits)));
     }
     files
 }
 
 /// The edits of a list of calls, as a file.
-fn file_of(list: &MapList) -> MapFile {
+fn file_of(version: u8, list: &MapList) -> MapFile {
     let edit = |(call, _): &(MapCall, MapAnswer)| match *call {
-        MapCall::Insert { con, direction, ratio, position } => {
+        MapCall::Insert { con, direction, ratio, position, .. } => {
             Some(Edit { point: con, direction: direction as u8, ratio, position })
         }
         _ => None,
     };
-    MapFile { border: list.maps.border, corners: list.maps.corners, edits: list.calls.iter().filter_map(edit).collect() }
+    let edits = list.calls.iter().filter_map(edit).collect();
+    MapFile { version, border: list.maps.border, corners: list.maps.corners, edits }
 }
 
-fn drawn(random: &mut Random) -> Vec<Vec<u8>> {
+/// The file of a drawn map with so many edits.
+fn drawn_file(random: &mut Random, version: u8, edits: usize) -> MapFile {
+    let plan = Plan { edits, questions: false, direct_calls: false, withdrawing: withdrawing(version) };
+    file_of(version, &map(random, plan))
+}
+
+fn drawn(random: &mut Random, version: u8) -> Vec<Vec<u8>> {
     let mut files = Vec::new();
-    for place in 0..DRAWN {
+    for place in 0..of_version(version, DRAWN) {
         let most = [6, 12, 25, 50][place % 4];
         let edits = 1 + random.below(most);
-        files.push(bytes_of(&file_of(&map(random, Plan { edits, questions: false, direct_calls: false }))));
+        files.push(bytes_of(&drawn_file(random, version, edits)));
     }
     files
 }
 
 /// Maps whose evaluation is refused: by an opening (3), by a border (4).
-fn refused_evaluations(random: &mut Random) -> Vec<Vec<u8>> {
-    let mut files = vec![bytes_of(&square(random, BORDER_MET))];
-    while files.len() < REFUSED_EVALUATIONS {
+fn refused_evaluations(random: &mut Random, version: u8) -> Vec<Vec<u8>> {
+    let met = square(random, version, of_version(version, [BORDER_MET, BORDER_MET_UNTORN]));
+    assert_eq!(run(&met).set_point(0.5, 0.5).err(), Some(BORDER));
+    let mut files = vec![bytes_of(&met)];
+    while files.len() < of_version(version, REFUSED_EVALUATIONS) {
         let edits = 1 + random.below(12);
-        let file = file_of(&map(random, Plan { edits, questions: false, direct_calls: false }));
+        let file = drawn_file(random, version, edits);
         if run(&file).set_point(0.5, 0.5).err() == Some(OPEN_SIDE) {
             files.push(bytes_of(&file));
         }
@@ -152,32 +187,39 @@ fn refused_evaluations(random: &mut Random) -> Vec<Vec<u8>> {
     files
 }
 
-fn full_stores(random: &mut Random) -> Vec<Vec<u8>> {
-    (0..FULL_STORES).map(|_| bytes_of(&file_of(&full_map(random)))).collect()
+/// The file of a map whose store is filled.
+fn full_file(random: &mut Random, version: u8) -> MapFile {
+    file_of(version, &full_map(random, withdrawing(version)))
 }
 
-fn borders(random: &mut Random) -> Vec<Vec<u8>> {
+fn full_stores(random: &mut Random, version: u8) -> Vec<Vec<u8>> {
+    (0..of_version(version, FULL_STORES)).map(|_| bytes_of(&full_file(random, version))).collect()
+}
+
+/// Borders with no edit, with two that are joined, and with one that is torn; in version 2 the last alone.
+fn borders(random: &mut Random, version: u8) -> Vec<Vec<u8>> {
     let lists: [&[(u8, usize, f64)]; 3] = [&[], &[(0, RIGHT, 0.5), (3, RIGHT, 0.5)], &[(1, UP, 0.25), (3, DOWN, 0.0)]];
     let mut files = Vec::new();
     for border in extremes() {
-        for edits in lists {
-            files.push(bytes_of(&MapFile { border, ..square(random, edits) }));
+        for edits in &lists[of_version(version, [0, 2])..] {
+            files.push(bytes_of(&MapFile { border, ..square(random, version, edits) }));
         }
     }
     files
 }
 
-fn ratios(random: &mut Random) -> Vec<Vec<u8>> {
+fn ratios(random: &mut Random, version: u8) -> Vec<Vec<u8>> {
     let near = [1.0, 1.0000000000000002, 0.9999999999999999, 2.0, 0.5];
     let ratios = extremes().into_iter().chain(near);
-    ratios.map(|ratio| bytes_of(&square(random, &[(0, RIGHT, ratio), (3, RIGHT, 0.5), (2, DOWN, ratio)]))).collect()
+    ratios.map(|ratio| bytes_of(&square(random, version, &[(0, RIGHT, ratio), (3, RIGHT, 0.5), (2, DOWN, ratio)]))).collect()
 }
 
-/// Positions that are no number from 0 to 1, of a corner and of a point inserted.
-fn positions(random: &mut Random) -> Vec<Vec<u8>> {
+/// Positions that are no number from 0 to 1, of a corner and of a point inserted, refused in version 1 and withdrawn in version 2.
+fn positions(random: &mut Random, version: u8) -> Vec<Vec<u8>> {
     let mut files = Vec::new();
     for (place, value) in extremes().into_iter().enumerate() {
-        let mut file = square(random, &[(0, RIGHT, 0.5), (3, RIGHT, 0.5), (0, RIGHT, 2.0)]);
+        let last = of_version(version, [2.0, 0.0]);
+        let mut file = square(random, version, &[(0, RIGHT, 0.5), (3, RIGHT, 0.5), (0, RIGHT, last)]);
         if place % 2 == 0 {
             file.corners[place % 4][place % 3] = value;
         }
@@ -189,7 +231,7 @@ fn positions(random: &mut Random) -> Vec<Vec<u8>> {
 
 /// A file of so many edits; most find the store full, or a ratio or a point that is refused.
 fn of_edits(random: &mut Random, count: usize) -> Vec<u8> {
-    let mut edits = file_of(&full_map(random)).edits;
+    let mut edits = full_file(random, 1).edits;
     while edits.len() < count {
         let ratio = random.of(&[0.25, 0.5, f64::NAN, -1.0]);
         edits.push(Edit {
@@ -200,11 +242,25 @@ fn of_edits(random: &mut Random, count: usize) -> Vec<u8> {
         });
     }
     edits.truncate(count);
-    bytes_of(&MapFile { border: 1.0, corners: SQUARE, edits })
+    bytes_of(&MapFile { version: 1, border: 1.0, corners: SQUARE, edits })
 }
 
-/// No edit, one, as many as there may be, one more; and a file whose last edit of all has no direction.
-fn edit_counts(random: &mut Random) -> Vec<Vec<u8>> {
+/// As many edits as there may be: those that fill a store, and before them edits that are torn at the corners and withdrawn, so that the store
+/// has room for the others.
+fn most_withdrawn(random: &mut Random) -> MapFile {
+    let file = full_file(random, 2);
+    let torn = [(0, RIGHT, 0.0), (1, UP, 0.0), (2, LEFT, 0.0), (3, DOWN, 0.0)];
+    let mut edits = insertions(random, &torn.repeat(MOST_EDITS / torn.len()));
+    edits.truncate(MOST_EDITS - file.edits.len());
+    edits.extend(&file.edits);
+    MapFile { edits, ..file }
+}
+
+/// No edit, one, as many as there may be, one more; and a file whose last edit of all has no direction. Of version 2, as many as there may be.
+fn edit_counts(random: &mut Random, version: u8) -> Vec<Vec<u8>> {
+    if version == 2 {
+        return vec![bytes_of(&most_withdrawn(random))];
+    }
     let mut files: Vec<Vec<u8>> = [0, 1, MOST_EDITS, MOST_EDITS + 1].map(|count| of_edits(random, count)).into();
     let mut last = files[2].clone();
     let end = last.len();
@@ -213,12 +269,16 @@ fn edit_counts(random: &mut Random) -> Vec<Vec<u8>> {
     files
 }
 
-/// Every prefix of a file of one edit, and as many bytes of a longer one with their own count in front.
-fn prefixes(random: &mut Random) -> Vec<Vec<u8>> {
-    let one = bytes_of(&square(random, &[(0, RIGHT, 0.5)]));
-    let three = bytes_of(&square(random, &[(0, RIGHT, 0.5), (3, RIGHT, 0.5), (0, UP, 0.0)]));
-    let counted = (COUNT_BYTES..three.len()).map(|length| with_count(&three[..length], (length - COUNT_BYTES) as u32));
-    (0..one.len()).map(|length| one[..length].to_vec()).chain(counted).collect()
+/// Every prefix of a file of one edit, and as many bytes of a longer one with their own count in front. Of version 2, those that have whole edits,
+/// a byte less or a byte more.
+fn prefixes(random: &mut Random, version: u8) -> Vec<Vec<u8>> {
+    let one = bytes_of(&square(random, version, &[(0, RIGHT, 0.5)]));
+    let three = bytes_of(&square(random, version, &[(0, RIGHT, 0.5), (3, RIGHT, 0.5), (0, UP, 0.0)]));
+    let near_whole = |length: usize| (length + 1).checked_sub(COUNT_BYTES + HEAD_BYTES).is_some_and(|over| over % EDIT_BYTES <= 2);
+    let is_kept = |length: &usize| version == 1 || near_whole(*length);
+    let counted = |length: usize| with_count(&three[..length], (length - COUNT_BYTES) as u32);
+    let cut = (0..one.len()).filter(is_kept).map(|length| one[..length].to_vec());
+    cut.chain((COUNT_BYTES..three.len()).filter(is_kept).map(counted)).collect()
 }
 
 fn with_count(file: &[u8], count: u32) -> Vec<u8> {
@@ -233,34 +293,40 @@ fn with_byte(file: &[u8], at: usize, byte: u8) -> Vec<u8> {
     changed
 }
 
+/// Bytes that stand for no version.
+const NO_VERSIONS: [u8; 8] = [0, 3, 4, 16, 49, 128, 129, 255];
+
 /// Files with one thing wrong, and some with two or three, of which the first in order is named.
-fn damaged(random: &mut Random) -> Vec<Vec<u8>> {
-    let sample = bytes_of(&square(random, &[(0, RIGHT, 0.5), (3, RIGHT, 0.5), (0, UP, 0.25)]));
+fn damaged(random: &mut Random, version: u8) -> Vec<Vec<u8>> {
+    let sample = bytes_of(&square(random, version, &[(0, RIGHT, 0.5), (3, RIGHT, 0.5), (0, UP, 0.25)]));
     let count = (sample.len() - COUNT_BYTES) as u32;
     let heading = |edit: usize| COUNT_BYTES + HEAD_BYTES + EDIT_BYTES * edit + 1;
     let off = [count - 1, count + 1, count - EDIT_BYTES as u32, count + EDIT_BYTES as u32, count + COUNT_BYTES as u32];
     let other = [0, HEAD_BYTES as u32, u32::MAX, 1 << 31, count.swap_bytes()];
     let mut files: Vec<Vec<u8>> = off.iter().chain(&other).map(|&count| with_count(&sample, count)).collect();
     files.push([&sample[..], &[0]].concat());
-    files.extend([0, 2, 3, 16, 49, 128, 129, 255].map(|version| with_byte(&sample, COUNT_BYTES, version)));
+    let versions: [&[u8]; 2] = [&NO_VERSIONS, &[]];
+    files.extend(of_version(version, versions).iter().map(|version| with_byte(&sample, COUNT_BYTES, *version)));
+    let directions: [&[u8]; 2] = [&[4, 5, 7, 127, 128, 252, 255], &[4, 255]];
     for edit in 0..3 {
-        files.extend([4, 5, 7, 127, 128, 252, 255].map(|direction| with_byte(&sample, heading(edit), direction)));
+        files.extend(of_version(version, directions).iter().map(|direction| with_byte(&sample, heading(edit), *direction)));
     }
-    files.push(with_count(&with_byte(&sample, COUNT_BYTES, 2), count + 1));
+    files.push(with_count(&with_byte(&sample, COUNT_BYTES, 3), count + 1));
     files.push(with_count(&with_byte(&sample, heading(0), 4), count - 1));
     files.push(with_byte(&with_byte(&sample, COUNT_BYTES, 0), heading(2), 9));
     files.push(with_count(&with_byte(&with_byte(&sample, COUNT_BYTES, 0), heading(1), 9), 0));
     files
 }
 
-/// Bytes drawn at random: as they come, with a count that is right, with the version too, and with directions.
-fn noise(random: &mut Random) -> Vec<Vec<u8>> {
+/// Bytes drawn at random: as they come, which is for both versions, with a count that is right, with the version too, and with directions.
+fn noise(random: &mut Random, version: u8) -> Vec<Vec<u8>> {
     let mut bytes = |length: usize| -> Vec<u8> { (0..length).map(|_| random.bits() as u8).collect() };
-    let mut files: Vec<Vec<u8>> = [1, 2, 3, 4, 5, 109, 143, 34_000].map(&mut bytes).into();
+    let lengths: [&[usize]; 2] = [&[1, 2, 3, 4, 5, 109, 143, 34_000], &[]];
+    let mut files: Vec<Vec<u8>> = of_version(version, lengths).iter().map(|length| bytes(*length)).collect();
     for edits in [0, 1, 2, 5, 20, 40] {
         let length = COUNT_BYTES + HEAD_BYTES + EDIT_BYTES * edits;
         let counted = with_count(&bytes(length), (length - COUNT_BYTES) as u32);
-        let versioned = with_byte(&counted, COUNT_BYTES, 1);
+        let versioned = with_byte(&counted, COUNT_BYTES, version);
         let mut directed = versioned.clone();
         for edit in 0..edits {
             directed[COUNT_BYTES + HEAD_BYTES + EDIT_BYTES * edit + 1] %= 4;
@@ -268,6 +334,32 @@ fn noise(random: &mut Random) -> Vec<Vec<u8>> {
         files.extend([counted, versioned, directed]);
     }
     files
+}
+
+/// Files that are alike but for the version and of which other texts are printed: the samples, edits after whose withdrawal something shows, turned to
+/// each side, and stores that are full later in version 2.
+fn twins(random: &mut Random, _: u8) -> Vec<Vec<u8>> {
+    let mut files = vec![sample(SAMPLES[1])];
+    for edits in WITHDRAWN {
+        for turns in 0..4 {
+            let turned: Vec<_> = edits.iter().map(|edit| turned(*edit, turns)).collect();
+            files.push(square(random, 2, &turned));
+        }
+    }
+    files.extend((0..FULL_TWINS).map(|_| full_file(random, 2)));
+    files.iter().flat_map(in_both_versions).collect()
+}
+
+fn in_both_versions(file: &MapFile) -> [Vec<u8>; 2] {
+    let files = VERSIONS.map(|version| bytes_of(&MapFile { version, ..file.clone() }));
+    assert_ne!(text(&files[0]), text(&files[1]));
+    files
+}
+
+/// An edit of the square map turned anticlockwise so many times.
+fn turned((point, direction, ratio): (u8, usize, f64), turns: usize) -> (u8, usize, f64) {
+    let corner = |point: u8| if point < 4 { (point + turns as u8) % 4 } else { point };
+    (corner(point), (direction + 3 * turns) % 4, ratio)
 }
 
 /// Cells and buffers for the C call for a cell: two drawn cells, one of a file that is refused, and at times a buffer that is too short.
@@ -311,7 +403,7 @@ impl Case {
 
     /// The same calls on a file with other edits.
     pub fn with_edits(&self, file: &MapFile, edits: &[Edit]) -> Case {
-        let file = bytes_of(&MapFile { border: file.border, corners: file.corners, edits: edits.to_vec() });
+        let file = bytes_of(&MapFile { edits: edits.to_vec(), ..*file });
         Case { kind: self.kind, file, calls: self.calls.clone(), cells: self.cells.clone() }
     }
 
@@ -322,10 +414,10 @@ impl Case {
 
 /// A file of a drawn map, at times of a full one, and at times with a byte changed.
 pub fn fresh(random: &mut Random, place: usize) -> Case {
+    let version = random.of(&VERSIONS);
     let most = random.of(&[6, 12, 25, 50]);
-    let plan = Plan { edits: 1 + random.below(most), questions: false, direct_calls: false };
-    let list = if place % 100 == 0 { full_map(random) } else { map(random, plan) };
-    let mut file = bytes_of(&file_of(&list));
+    let edits = 1 + random.below(most);
+    let mut file = bytes_of(&if place % 100 == 0 { full_file(random, version) } else { drawn_file(random, version, edits) });
     if random.one_in(10) {
         let at = random.below(file.len());
         file[at] = random.bits() as u8;
@@ -368,32 +460,42 @@ pub fn encoded(case: &Case) -> Vec<u8> {
     body.with_length()
 }
 
-pub fn write(seed: u64) {
-    let mut random = Random::new(seed);
-    let kinds: [(&str, fn(&mut Random) -> Vec<Vec<u8>>); 14] = [
-        ("worked examples", worked_examples),
-        ("rings and caps", rings),
-        ("grids", grids),
-        ("drawn maps", drawn),
-        ("refused evaluations", refused_evaluations),
-        ("full stores", full_stores),
-        ("borders", borders),
-        ("ratios", ratios),
-        ("positions", positions),
-        ("counts of edits", edit_counts),
-        ("prefixes", prefixes),
-        ("damaged", damaged),
-        ("noise", noise),
-        ("empty", |_| vec![Vec::new()]),
-    ];
+/// What files are kept for, and those of a version.
+type Kind = (&'static str, fn(&mut Random, u8) -> Vec<Vec<u8>>);
+
+const KINDS: [Kind; 14] = [
+    ("worked examples", worked_examples),
+    ("rings and caps", rings),
+    ("grids", grids),
+    ("drawn maps", drawn),
+    ("refused evaluations", refused_evaluations),
+    ("full stores", full_stores),
+    ("borders", borders),
+    ("ratios", ratios),
+    ("positions", positions),
+    ("counts of edits", edit_counts),
+    ("prefixes", prefixes),
+    ("damaged", damaged),
+    ("noise", noise),
+    ("empty", |_, version| vec![Vec::new(); of_version(version, [1, 0])]),
+];
+
+fn cases_of(random: &mut Random, version: u8, kinds: &[Kind]) -> Vec<Case> {
     let mut cases = Vec::new();
-    for (kind, files) in kinds {
-        for file in files(&mut random) {
-            let calls = calls(&mut random, read(&file).is_ok());
+    for &(kind, files) in kinds {
+        for file in files(random, version) {
+            let calls = calls(random, read(&file).is_ok());
             cases.push(Case { kind, file, calls, cells: Vec::new() });
         }
     }
-    cases.iter_mut().for_each(|case| case.cells = cells(&mut random, &case.file));
+    cases.iter_mut().for_each(|case| case.cells = cells(random, &case.file));
+    cases
+}
+
+pub fn write(seed: u64) {
+    let mut random = Random::new(seed);
+    let mut cases: Vec<Case> = VERSIONS.iter().flat_map(|version| cases_of(&mut random, *version, &KINDS)).collect();
+    cases.extend(cases_of(&mut random, 2, &[("alike but for the version", twins)]));
     // Outside the map of no edits, which stands first, there is no weight.
     let outside = (5.0f64.to_bits(), 0.5f64.to_bits(), VALUE_BYTES);
     assert_eq!(host_answer(&cases[0].file, outside.0, outside.1, outside.2), Err(NO_WEIGHT));
@@ -424,6 +526,8 @@ fn difference(run: &Run, mid: u8) -> &'static str {
     let knots = || run.maps.reading.listed.iter().map(|&point| run.maps.reading.store.point_knot_vectors(point));
     if !run.maps.followed {
         "an insertion torn by a ring"
+    } else if run.withdrawn().any(|answer| matches!(answer, Insertion::Torn(_, RING))) {
+        "an insertion torn by a ring and withdrawn"
     } else if mid == RING {
         "an evaluation refused 9"
     } else if knots().any(|knots| knots.is_ok_and(|knots| !knots.never_fall())) {
@@ -450,11 +554,40 @@ impl Words {
     }
 }
 
+/// How many files of each version are run, what their edits answer, which are withdrawn, and of how many files of version 2 another text would be
+/// printed were they of version 1.
+#[derive(Default)]
+pub struct Runs {
+    versions: Numbers,
+    edits: Numbers,
+    withdrawn: Withdrawn,
+    told_apart: usize,
+}
+
+impl Runs {
+    pub fn count(&mut self, case: &Case) {
+        let Ok(file) = read(&case.file) else { return };
+        let run = run(&file);
+        self.versions.count(file.version);
+        run.answers.iter().for_each(|answer| self.edits.count(answer.number()));
+        run.withdrawn().for_each(|answer| self.withdrawn.count(answer));
+        self.told_apart += (text(&case.file) != text(&with_byte(&case.file, COUNT_BYTES, 1))) as usize;
+    }
+
+    pub fn print(&self) {
+        self.versions.print("versions");
+        println!("{:12} {} of version 2", "told apart", self.told_apart);
+        self.edits.print("edits");
+        self.withdrawn.print();
+    }
+}
+
 fn print_table(cases: &[Case]) {
-    let (mut files, mut edits, mut mids, mut hosts, mut cells) = <(Numbers, Numbers, Numbers, Numbers, Numbers)>::default();
-    let (mut kinds, mut differences, mut inferred) = <(Words, Words, [usize; 3])>::default();
+    let (mut files, mut mids, mut hosts, mut cells) = <(Numbers, Numbers, Numbers, Numbers)>::default();
+    let (mut kinds, mut differences, mut inferred, mut runs) = <(Words, Words, [usize; 3], Runs)>::default();
     for case in cases {
         kinds.count(case.kind);
+        runs.count(case);
         for &(s, t, room) in &case.calls {
             hosts.count(host_answer(&case.file, s, t, room).err().unwrap_or(0));
         }
@@ -466,8 +599,7 @@ fn print_table(cases: &[Case]) {
         let Ok(file) = file else { continue };
         let mut run = run(&file);
         for answer in &run.answers {
-            edits.count(answer.number());
-            if let MapAnswer::Inserted(Insertion::Done(counts)) = answer {
+            if let Insertion::Done(counts) = answer {
                 inferred[counts.inferred as usize] += 1;
             }
         }
@@ -478,7 +610,7 @@ fn print_table(cases: &[Case]) {
     println!("{} files", cases.len());
     kinds.print("kinds");
     files.print("files");
-    edits.print("edits");
+    runs.print();
     println!("inferred     none {}, one {}, two {}", inferred[0], inferred[1], inferred[2]);
     mids.print("mid");
     hosts.print("C calls");

@@ -1,5 +1,5 @@
-//! A second reading of the ledger of sides, written from the request that describes it (Ticket 4 of document 02): what can be counted of a map's
-//! points, and what the answers of its insertions alone say that the counts are.
+//! A second reading of the ledger of sides, written from the requests that describe it (Tickets 4 and 5 of document 02): what can be counted of a
+//! map's points, and what the answers of its insertions alone say that the counts are.
 use crate::bytes::bits_of;
 use crate::reading::{Insertion, Side, Store, opposite};
 
@@ -31,7 +31,7 @@ pub fn is_mirrored(store: &Store) -> bool {
     (0..store.made() as u8).all(|n| (0..4).all(|d| has_mirror(n, d)))
 }
 
-/// The insertions done and those torn, and the sums of their counts. A refused one is in none of them.
+/// The insertions done and those torn, and the sums of their counts. A refused one is in none of them, nor is one that is withdrawn.
 #[derive(Default)]
 pub struct Ledger {
     done: usize,
@@ -41,12 +41,14 @@ pub struct Ledger {
 }
 
 impl Ledger {
-    pub fn enter(&mut self, answer: Insertion) {
+    /// Enters an insertion by its answer, and by whether torn ones are withdrawn.
+    pub fn enter(&mut self, withdraws: bool, answer: Insertion) {
         let counts = match answer {
             Insertion::Done(counts) => {
                 self.done += 1;
                 counts
             }
+            Insertion::Torn(..) if withdraws => return,
             Insertion::Torn(counts, _) => {
                 self.torn += 1;
                 counts

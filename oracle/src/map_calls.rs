@@ -5,12 +5,13 @@ use crate::calls::{Answer, Call, assert_same_points, hold_against, perform, put_
 use crate::index::{Cell, cell_of};
 use crate::ledger::{Census, Ledger, is_mirrored};
 use crate::original;
-use crate::reading::{self, FULL, Insertion, Knots, NO_POINT, RING, Side, TORN, Value, anticlockwise, clockwise};
+use crate::reading::{self, FULL, Insertion, Knots, NO_POINT, Point, RING, Side, Value, anticlockwise, clockwise};
 
 /// One call on a map.
 #[derive(Clone, Copy, Debug)]
 pub enum MapCall {
-    Insert { con: u8, direction: usize, ratio: f64, position: [f64; 3] },
+    /// An insertion, withdrawn where it is torn or not.
+    Insert { withdraws: bool, con: u8, direction: usize, ratio: f64, position: [f64; 3] },
     Ray { point: u8, direction: usize, count: usize },
     Knots { point: u8 },
     Evaluate { s: f64, t: f64 },
@@ -47,9 +48,7 @@ impl MapAnswer {
     /// The answer's number, 0 for done.
     pub fn number(&self) -> u8 {
         match self {
-            MapAnswer::Inserted(Insertion::Done(_)) => 0,
-            MapAnswer::Inserted(Insertion::Torn(..)) => TORN,
-            MapAnswer::Inserted(Insertion::Refused(number)) => *number,
+            MapAnswer::Inserted(answer) => answer.number(),
             MapAnswer::Cast(answer) => answer.as_ref().err().copied().unwrap_or(0),
             MapAnswer::Knotted(answer) => answer.err().unwrap_or(0),
             MapAnswer::Evaluated(answer) => answer.err().unwrap_or(0),
@@ -65,7 +64,8 @@ impl MapAnswer {
 pub struct Maps {
     pub reading: reading::Map,
     original: original::Map,
-    /// Whether the published map still stands where the reading does: an insertion torn by a ring is not made there.
+    /// Whether the published map still stands where the reading does: an insertion torn by a ring is not made there. One that is withdrawn
+    /// is not made there either, and leaves both as they were.
     pub followed: bool,
     /// Whether the knots that the two keep are the same: falling knots are sorted there.
     same_knots: bool,
@@ -98,10 +98,10 @@ impl Maps {
 
     pub fn make(&mut self, call: MapCall) -> MapAnswer {
         match call {
-            MapCall::Insert { con, direction, ratio, position } => {
-                let answer = self.insert(con, direction, ratio, position);
+            MapCall::Insert { withdraws, con, direction, ratio, position } => {
+                let answer = self.insert(withdraws, con, direction, ratio, position);
                 if let Some(ledger) = &mut self.ledger {
-                    ledger.enter(answer);
+                    ledger.enter(withdraws, answer);
                 }
                 MapAnswer::Inserted(answer)
             }
@@ -120,32 +120,28 @@ impl Maps {
         }
     }
 
-    fn insert(&mut self, con: u8, d: usize, ratio: f64, position: [f64; 3]) -> Insertion {
-        let answer = self.reading.add_control_point(position, con, d, ratio);
+    fn insert(&mut self, withdraws: bool, con: u8, d: usize, ratio: f64, position: [f64; 3]) -> Insertion {
+        let answer = self.reading.add_by_rule(withdraws, position, con, d, ratio);
         match answer {
             Insertion::Refused(FULL) => return answer,
             Insertion::Refused(_) if con as usize >= self.made() => return answer,
+            Insertion::Torn(_, RING) if withdraws => return answer,
             Insertion::Torn(_, RING) => self.followed = false,
             Insertion::Done(_) => self.same_knots = true,
             _ => {}
         }
         if self.followed {
-            let published = self.original.add_control_point(position, con, d, ratio);
-            assert_eq!(published, MapAnswer::Inserted(answer).number(), "insertion at {con} {d} {ratio}");
+            let (published, thrown_away) = if withdraws {
+                self.original.add_or_withdraw(position, con, d, ratio)
+            } else {
+                (self.original.add_control_point(position, con, d, ratio), None)
+            };
+            assert_eq!(published, answer.number(), "insertion at {con} {d} {ratio}");
             if let Insertion::Done(counts) | Insertion::Torn(counts, _) = answer {
-                self.assert_counted(d, counts);
+                assert_counted(thrown_away.as_ref().unwrap_or(&self.original).store.last(), d, counts);
             }
         }
         answer
-    }
-
-    /// The counts are what can be read from the new point: its sides across the line that are no borders, and those that are links.
-    fn assert_counted(&self, d: usize, counts: reading::Counts) {
-        let new = self.reading.store.points.last().expect("a point was made");
-        let across = [new.sides[clockwise(d)], new.sides[anticlockwise(d)]];
-        let count = |wanted: fn(&Side) -> bool| across.iter().filter(|side| wanted(side)).count() as u8;
-        assert_eq!(count(|side| !side.is_border()), counts.opened);
-        assert_eq!(count(|side| side.is_link()), counts.inferred);
     }
 
     fn ray(&mut self, point: u8, d: usize, count: usize) -> Result<Vec<f64>, u8> {
@@ -292,6 +288,15 @@ impl Maps {
     }
 }
 
+/// The counts are what can be read from the new point, as it stands on the published side: its sides across the line that are no borders, and
+/// those that are links.
+fn assert_counted(new: Point, d: usize, counts: reading::Counts) {
+    let across = [new.sides[clockwise(d)], new.sides[anticlockwise(d)]];
+    let count = |wanted: fn(&Side) -> bool| across.iter().filter(|side| wanted(side)).count() as u8;
+    assert_eq!(count(|side| !side.is_border()), counts.opened);
+    assert_eq!(count(|side| side.is_link()), counts.inferred);
+}
+
 /// The counts of points, each of whose links has its mirror.
 fn counted(store: &reading::Store, listed: usize) -> Census {
     assert!(is_mirrored(store), "a link without its mirror: {:?}", store.points);
@@ -306,8 +311,8 @@ pub fn put_map_call(out: &mut Bytes, call: MapCall) {
         out.float(t);
     };
     match call {
-        MapCall::Insert { con, direction, ratio, position } => {
-            [0, con, direction as u8].iter().for_each(|n| out.byte(*n));
+        MapCall::Insert { withdraws, con, direction, ratio, position } => {
+            [if withdraws { 10 } else { 0 }, con, direction as u8].iter().for_each(|n| out.byte(*n));
             out.float(ratio);
             position.iter().for_each(|x| out.float(*x));
         }

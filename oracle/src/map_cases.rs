@@ -1,18 +1,18 @@
 //! Lists of calls on whole maps, each with the answer of every call and the map at the end.
 use crate::bytes::Bytes;
 use crate::calls::Call;
-use crate::draw::{MapList, Plan, RING_PREFIXES, cell, evaluation, full_map, map, question};
+use crate::draw::{MapList, Plan, RING_PREFIXES, Withdrawing, cell, evaluation, full_map, map, question};
 use crate::index::{Cell, LINES};
 use crate::ledger::Census;
 use crate::map_calls::{MapAnswer, MapCall, put_map, put_map_answer, put_map_call};
-use crate::map_file::{bits, sample};
+use crate::map_file::{SAMPLES, bits, sample};
 use crate::random::Random;
 use crate::reading::{BORDER, CAPACITY, DOWN, FOREIGN, FULL, INTERVAL, Insertion, LEFT, NO_WEIGHT, OPEN_SIDE, RATIO, RIGHT, TORN, UP};
 
 const ALL_RAYS: usize = 24;
 const SOME_RAYS: usize = 170;
 const DIRECT_CALLS: usize = 60;
-const FULL_STORES: usize = 4;
+const FULL_STORES: usize = 6;
 const EVERY_LENGTH: [usize; 6] = [0, 1, 2, 3, 4, 5];
 
 pub const SQUARE: [[f64; 3]; 4] = [[0.0, 0.0, 0.0], [1.0, 0.0, 0.0], [1.0, 1.0, 1.0], [0.0, 1.0, 1.0]];
@@ -94,6 +94,22 @@ pub const AROUND_TWICE: &[(u8, usize, f64)] = &[
     (21, 2, 0.75),
 ];
 
+/// Edits, one of them torn, that leave another map where it is withdrawn than where it stays.
+pub const WITHDRAWN: [&[(u8, usize, f64)]; 4] = [FAR_END, INFERRED, NUMBER_AGAIN, PAST_A_RING];
+
+/// Two lines that miss each other are joined, which moves point 4 across. The torn edit is its neighbour, and places it anew.
+const FAR_END: &[(u8, usize, f64)] = &[(0, RIGHT, 0.5), (3, RIGHT, 0.5000009), (0, RIGHT, 0.0)];
+
+/// The torn edit is joined to point 4 on its first side, which moves point 4 across, and the search on its second side fails.
+const INFERRED: &[(u8, usize, f64)] = &[(0, RIGHT, 1.5e-6), (0, UP, 0.5), (1, UP, 0.5), (5, RIGHT, 9e-7)];
+
+/// Where the first edit is withdrawn, the second has its number.
+const NUMBER_AGAIN: &[(u8, usize, f64)] = &[(0, RIGHT, 0.0), (0, RIGHT, 0.5), (4, RIGHT, 0.5), (3, RIGHT, 0.5)];
+
+/// The last edit but one is torn by a ring.
+const PAST_A_RING: &[(u8, usize, f64)] =
+    &[(2, 2, 0.25), (0, 0, 0.75), (2, 2, 1.0), (0, 0, 1.0), (7, 1, 0.5), (4, 3, 0.5), (5, 0, 0.0), (1, 0, 0.5)];
+
 fn square() -> MapList {
     MapList::new(SQUARE, 1.0)
 }
@@ -160,10 +176,117 @@ fn worked_examples(random: &mut Random) -> Vec<MapList> {
     insert(&mut infinite, random, &[(3, DOWN, 0.5), (0, UP, 1.0), (2, LEFT, 0.25)]);
     infinite.call(MapCall::Evaluate { s: 0.5, t: 0.5 });
     let mut lists = vec![square(), fresh, at_one, torn, inferred, infinite, refused_knots(), no_knots(), full_line(random), all_open()];
-    lists.extend([all_linked(), counts_between(random), of_sample()]);
+    lists.extend([all_linked(), counts_between(random), of_sample(SAMPLES[0])]);
     lists.extend([cells_kept(random), cells_refused(), cells_between(random), cells_of_grid(random)]);
     lists.extend(CELL_BORDERS.map(|border| cells_of_border(random, border)));
+    lists.extend([withdrawn_kept(random), withdrawn_inferred(random), withdrawn_far_end(random), withdrawn_number(random)]);
+    lists.extend([withdrawn_full(random), withdrawing_refused(random), of_sample(SAMPLES[1])]);
+    lists.extend(WITHDRAWN.map(|edits| edited(random, true, edits, &[2, 5])));
     lists
+}
+
+fn same_answers(before: &MapAnswer, after: &MapAnswer) -> bool {
+    let bytes = |answer| {
+        let mut out = Bytes::default();
+        put_map_answer(&mut out, answer);
+        out.0
+    };
+    bytes(before) == bytes(after)
+}
+
+/// A torn insertion is withdrawn where knots are kept: they and their index stay, and are the same built anew. The same insertion then stays, and what is
+/// built anew is another. Before, no knots are kept, and none are kept after a withdrawn insertion.
+fn withdrawn_kept(random: &mut Random) -> MapList {
+    let mut list = square();
+    assert_eq!(list.insert_or_withdraw(random, 0, RIGHT, 0.0).number(), TORN);
+    assert!(list.maps.reading.kept.is_none());
+    assert_eq!(list.insert(random, 0, RIGHT, 0.5).number(), 0);
+    let questions = [MapCall::Evaluate { s: 0.25, t: 0.75 }, MapCall::CellPoints { cell: 15 }, MapCall::Openings, MapCall::Counts];
+    let ask = |list: &mut MapList| questions.map(|question| list.call(question));
+    let unchanged = |list: &mut MapList, before: &[MapAnswer]| ask(list).iter().zip(before).all(|(after, before)| same_answers(before, after));
+    let before = ask(&mut list);
+    assert_eq!(list.insert_or_withdraw(random, 0, RIGHT, 0.0).number(), TORN);
+    assert!(unchanged(&mut list, &before));
+    assert_eq!(list.call(MapCall::Generate).number(), 0);
+    assert!(unchanged(&mut list, &before));
+    assert_eq!(list.insert(random, 0, RIGHT, 0.0).number(), TORN);
+    assert_eq!(list.call(MapCall::Generate).number(), 0);
+    assert!(!unchanged(&mut list, &before));
+    list
+}
+
+/// The last of some edits is torn with these counts and withdrawn, and then made again to stay: point 4 is moved across only then.
+fn withdrawn_and_moved(random: &mut Random, edits: &[(u8, usize, f64)], opened: u8, inferred: u8) -> MapList {
+    let mut list = square();
+    let (&(con, direction, ratio), before) = edits.split_last().expect("an edit");
+    for &(con, direction, ratio) in before {
+        assert_eq!(list.insert_or_withdraw(random, con, direction, ratio).number(), 0);
+    }
+    let knots = MapCall::Knots { point: 4 };
+    let (placed, counted) = (list.call(knots), counts(&mut list));
+    let value = list.call(MapCall::Evaluate { s: 0.25, t: 0.75 });
+    let MapAnswer::Inserted(Insertion::Torn(answer, _)) = list.insert_or_withdraw(random, con, direction, ratio) else { panic!("not torn") };
+    assert_eq!((answer.opened, answer.inferred), (opened, inferred));
+    assert_same_value(&value, &list.call(MapCall::Evaluate { s: 0.25, t: 0.75 }));
+    assert!(same_answers(&placed, &list.call(knots)));
+    assert_eq!(counts(&mut list), counted);
+    assert_eq!(list.insert(random, con, direction, ratio).number(), TORN);
+    assert!(!same_answers(&placed, &list.call(knots)));
+    list
+}
+
+fn withdrawn_inferred(random: &mut Random) -> MapList {
+    withdrawn_and_moved(random, INFERRED, 2, 1)
+}
+
+fn withdrawn_far_end(random: &mut Random) -> MapList {
+    withdrawn_and_moved(random, FAR_END, 1, 0)
+}
+
+/// After a withdrawn insertion the next one that is done has its number, and is listed.
+fn withdrawn_number(random: &mut Random) -> MapList {
+    let mut list = square();
+    for (con, ratio, number, made) in [(0, 0.0, TORN, 4), (4, 0.5, FOREIGN, 4), (0, 0.5, 0, 5), (4, 0.0, 0, 6), (4, 0.5, 0, 7)] {
+        assert_eq!(list.insert_or_withdraw(random, con, RIGHT, ratio).number(), number);
+        assert_eq!(list.maps.made(), made);
+    }
+    assert_eq!(list.maps.reading.listed, [0, 1, 2, 3, 4, 5, 6]);
+    list.call(MapCall::Evaluate { s: 0.5, t: 0.5 });
+    list
+}
+
+/// A store with room for one point more: a withdrawn insertion leaves it, and one that is done takes it. A full store is 10 by either rule.
+fn withdrawn_full(random: &mut Random) -> MapList {
+    let mut list = square();
+    while list.maps.made() < CAPACITY - 1 {
+        let con = random.of(&list.maps.reading.listed);
+        list.insert_or_withdraw(random, con, RIGHT, 0.5);
+    }
+    for (ratio, number) in [(0.0, TORN), (0.5, 0), (0.0, FULL)] {
+        assert_eq!(list.insert_or_withdraw(random, 0, RIGHT, ratio).number(), number);
+    }
+    assert_eq!(list.insert(random, 0, RIGHT, 0.0).number(), FULL);
+    list
+}
+
+/// An insertion that would be withdrawn is refused as any is.
+fn withdrawing_refused(random: &mut Random) -> MapList {
+    let mut list = square();
+    for (con, direction, ratio, number) in [
+        (0, RIGHT, 0.5, 0),
+        (0, RIGHT, 2.0, RATIO),
+        (5, RIGHT, 0.5, FOREIGN),
+        (255, RIGHT, 0.5, FOREIGN),
+        (4, UP, 0.5, OPEN_SIDE),
+        (0, LEFT, 0.5, BORDER),
+    ] {
+        assert_eq!(list.insert_or_withdraw(random, con, direction, ratio).number(), number);
+    }
+    for call in [Call::RemoveConnection(3, RIGHT), Call::Connect(3, 2, RIGHT, f64::INFINITY)] {
+        assert_eq!(list.call(MapCall::Direct(call)).number(), 0);
+    }
+    assert_eq!(list.insert_or_withdraw(random, 3, RIGHT, 0.5).number(), INTERVAL);
+    list
 }
 
 /// The cells at the corners of the grid.
@@ -407,14 +530,14 @@ fn all_linked() -> MapList {
     list
 }
 
-/// The edits of the sample whose answers docs/FORMATS.md adds up, and the counts and openings that they leave.
-fn of_sample() -> MapList {
-    let file = sample();
+/// The edits of a sample whose answers docs/FORMATS.md adds up, and the counts and openings that they leave.
+fn of_sample(path: &str) -> MapList {
+    let file = sample(path);
     let mut list = MapList::new(file.corners, file.border);
     for edit in &file.edits {
-        list.call(edit.call());
+        list.call(edit.call(file.withdraws()));
     }
-    assert_eq!(counts(&mut list), [18, 17, 26, 16, 4]);
+    assert_eq!(counts(&mut list), if file.withdraws() { [17, 17, 25, 16, 2] } else { [18, 17, 26, 16, 4] });
     list.call(MapCall::Openings);
     list
 }
@@ -454,11 +577,11 @@ fn assert_same_value(before: &MapAnswer, after: &MapAnswer) {
     assert_eq!(bits(before), bits(after));
 }
 
-/// A map after edits, evaluated, with rays of some lengths from every point and side.
-fn edited(random: &mut Random, edits: &[(u8, usize, f64)], lengths: &[usize]) -> MapList {
+/// A map after edits, by a rule on torn ones, evaluated, with rays of some lengths from every point and side.
+fn edited(random: &mut Random, withdraws: bool, edits: &[(u8, usize, f64)], lengths: &[usize]) -> MapList {
     let mut list = square();
     for &(con, direction, ratio) in edits {
-        list.insert(random, con, direction, ratio);
+        list.insert_by_rule(random, withdraws, con, direction, ratio);
     }
     list.call(MapCall::Evaluate { s: 0.5, t: 0.5 });
     list.call(MapCall::Lend { s: 0.5, t: 0.5 });
@@ -523,12 +646,12 @@ pub fn encoded(list: &MapList) -> Vec<u8> {
 pub fn write(seed: u64) {
     let mut random = Random::new(seed);
     let mut lists = worked_examples(&mut random);
-    lists.extend(RING_PREFIXES.iter().map(|edits| edited(&mut random, edits, &EVERY_LENGTH)));
-    lists.extend(AT_THE_CAPS.iter().chain([&AROUND_TWICE]).map(|edits| edited(&mut random, edits, &[2, 5])));
+    lists.extend(RING_PREFIXES.iter().map(|edits| edited(&mut random, false, edits, &EVERY_LENGTH)));
+    lists.extend(AT_THE_CAPS.iter().chain([&AROUND_TWICE]).map(|edits| edited(&mut random, false, edits, &[2, 5])));
     for place in 0..ALL_RAYS + SOME_RAYS + DIRECT_CALLS {
         let direct_calls = place >= ALL_RAYS + SOME_RAYS;
         let edits = 1 + if place < ALL_RAYS { place % 9 } else { random.below(28) };
-        let mut list = map(&mut random, Plan { edits, questions: true, direct_calls });
+        let mut list = map(&mut random, Plan { edits, questions: true, direct_calls, withdrawing: Withdrawing::of(place) });
         if place < ALL_RAYS {
             rays(&mut list, &EVERY_LENGTH);
         } else {
@@ -536,8 +659,8 @@ pub fn write(seed: u64) {
         }
         lists.push(list);
     }
-    for _ in 0..FULL_STORES {
-        let mut list = full_map(&mut random);
+    for place in 0..FULL_STORES {
+        let mut list = full_map(&mut random, Withdrawing::of(place));
         some_rays(&mut list, &mut random);
         lists.push(list);
     }

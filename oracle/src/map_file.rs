@@ -1,10 +1,10 @@
-//! A second reading of the map file, of what the program prints of it and of what the C calls answer, written from the paper that
-//! describes them. The map itself is run on both sides, as everywhere in the comparison.
+//! A second reading of the map file, of what the program prints of it and of what the C calls answer, written from the papers that
+//! describe them. The map itself is run on both sides, as everywhere in the comparison.
 use crate::bytes::bits_of;
 use crate::index::Cell;
 use crate::ledger::{Census, Ledger};
 use crate::map_calls::{MapAnswer, MapCall, Maps};
-use crate::reading::{Insertion, Refused, Value};
+use crate::reading::{Insertion, Refused, TORN, Value};
 
 pub const LENGTH: u8 = 12;
 pub const VERSION: u8 = 13;
@@ -16,6 +16,9 @@ pub const COUNT_BYTES: usize = 4;
 pub const HEAD_BYTES: usize = 105;
 pub const EDIT_BYTES: usize = 34;
 pub const MOST_EDITS: usize = 1000;
+
+/// The versions that there are. They are laid out alike, and differ in what becomes of a torn edit.
+pub const VERSIONS: [u8; 2] = [1, 2];
 
 /// What the C call for a set-point writes: a position and its weight.
 pub const VALUE_BYTES: usize = 32;
@@ -32,17 +35,26 @@ pub struct Edit {
 }
 
 impl Edit {
-    /// The edit as a call.
-    pub fn call(&self) -> MapCall {
+    /// The edit as a call, by the rule on torn ones.
+    pub fn call(&self, withdraws: bool) -> MapCall {
         let Edit { point, direction, ratio, position } = *self;
-        MapCall::Insert { con: point, direction: direction as usize, ratio, position }
+        MapCall::Insert { withdraws, con: point, direction: direction as usize, ratio, position }
     }
 }
 
+#[derive(Clone)]
 pub struct MapFile {
+    pub version: u8,
     pub border: f64,
     pub corners: [[f64; 3]; 4],
     pub edits: Vec<Edit>,
+}
+
+impl MapFile {
+    /// Whether a torn edit is withdrawn: in version 1 it stays.
+    pub fn withdraws(&self) -> bool {
+        self.version == 2
+    }
 }
 
 /// Bytes that are taken from the front. There are enough: the count was checked.
@@ -81,7 +93,8 @@ fn edits_counted(file: &[u8]) -> Option<usize> {
 pub fn read(file: &[u8]) -> Refused<MapFile> {
     let count = edits_counted(file).ok_or(LENGTH)?;
     let mut front = Front(&file[COUNT_BYTES..]);
-    if front.byte() != 1 {
+    let version = front.byte();
+    if !VERSIONS.contains(&version) {
         return Err(VERSION);
     }
     let border = front.float();
@@ -90,14 +103,14 @@ pub fn read(file: &[u8]) -> Refused<MapFile> {
     if edits.iter().any(|edit| edit.direction > 3) {
         return Err(HEADING);
     }
-    Ok(MapFile { border, corners, edits })
+    Ok(MapFile { version, border, corners, edits })
 }
 
 /// The bytes of a file whose count is right.
 pub fn bytes_of(file: &MapFile) -> Vec<u8> {
     let mut out = ((HEAD_BYTES + file.edits.len() * EDIT_BYTES) as u32).to_be_bytes().to_vec();
     let put = |out: &mut Vec<u8>, x: f64| out.extend(x.to_bits().to_be_bytes());
-    out.push(1);
+    out.push(file.version);
     put(&mut out, file.border);
     file.corners.iter().flatten().for_each(|x| put(&mut out, *x));
     for edit in &file.edits {
@@ -108,17 +121,23 @@ pub fn bytes_of(file: &MapFile) -> Vec<u8> {
     out
 }
 
-/// A file that was run: both maps after its edits, and what each edit answered.
+/// A file that was run: whether torn edits were withdrawn, both maps after its edits, and what each edit answered.
 pub struct Run {
+    withdraws: bool,
     pub maps: Maps,
-    pub answers: Vec<MapAnswer>,
+    pub answers: Vec<Insertion>,
 }
 
 pub fn run(file: &MapFile) -> Run {
+    let withdraws = file.withdraws();
     let mut maps = Maps::new(file.corners, file.border);
-    let answers = file.edits.iter().map(|edit| maps.make(edit.call())).collect();
+    let mut answers = Vec::new();
+    for edit in &file.edits {
+        let MapAnswer::Inserted(answer) = maps.make(edit.call(withdraws)) else { unreachable!() };
+        answers.push(answer);
+    }
     maps.assert_same();
-    Run { maps, answers }
+    Run { withdraws, maps, answers }
 }
 
 impl Run {
@@ -130,11 +149,13 @@ impl Run {
     /// The counts that the answers of the edits give.
     fn by_answers(&self) -> Census {
         let mut ledger = Ledger::default();
-        for answer in &self.answers {
-            let MapAnswer::Inserted(answer) = answer else { unreachable!() };
-            ledger.enter(*answer);
-        }
+        self.answers.iter().for_each(|answer| ledger.enter(self.withdraws, *answer));
         ledger.census()
+    }
+
+    /// The answers of the edits that were withdrawn.
+    pub fn withdrawn(&self) -> impl Iterator<Item = &Insertion> {
+        self.answers.iter().filter(|answer| self.withdraws && answer.number() == TORN)
     }
 }
 
@@ -179,30 +200,32 @@ pub fn text(file: &[u8]) -> String {
     }
 }
 
-/// A sample and the answers of its edits, which docs/FORMATS.md adds up.
-const SAMPLE: &str = "samples/dryer.map";
+/// Two samples, of version 1 and of version 2, with the same edits, and the answers of these in both, which docs/FORMATS.md adds up.
+pub const SAMPLES: [&str; 2] = ["samples/dryer.map", "samples/withdrawn.map"];
 const ANSWERS: &str = "samples/dryer.answers";
 
-pub fn sample() -> MapFile {
-    read(&std::fs::read(SAMPLE).expect("the sample can be read")).expect("the sample is valid")
+pub fn sample(path: &str) -> MapFile {
+    read(&std::fs::read(path).expect("the sample can be read")).expect("the sample is valid")
 }
 
-/// What the edits of the sample answer, one a line.
-fn sample_answers() -> String {
-    let line = |answer: &MapAnswer| match answer {
-        MapAnswer::Inserted(Insertion::Done(counts)) => format!("done {} {}\n", counts.opened, counts.inferred),
-        MapAnswer::Inserted(Insertion::Torn(counts, _)) => format!("torn {} {}\n", counts.opened, counts.inferred),
-        other => format!("refused {}\n", other.number()),
+/// What the edits of a sample answer, one a line.
+fn sample_answers(path: &str) -> String {
+    let line = |answer: &Insertion| match answer {
+        Insertion::Done(counts) => format!("done {} {}\n", counts.opened, counts.inferred),
+        Insertion::Torn(counts, _) => format!("torn {} {}\n", counts.opened, counts.inferred),
+        Insertion::Refused(number) => format!("refused {number}\n"),
     };
-    run(&sample()).answers.iter().map(line).collect()
+    run(&sample(path)).answers.iter().map(line).collect()
 }
 
 pub fn write_sample_answers() {
-    std::fs::write(ANSWERS, sample_answers()).expect("the answers can be written");
+    std::fs::write(ANSWERS, sample_answers(SAMPLES[0])).expect("the answers can be written");
+    assert_sample_answers();
 }
 
 pub fn assert_sample_answers() {
-    assert_eq!(std::fs::read_to_string(ANSWERS).expect("the answers can be read"), sample_answers(), "{ANSWERS}");
+    let stored = std::fs::read_to_string(ANSWERS).expect("the answers can be read");
+    SAMPLES.iter().for_each(|path| assert_eq!(stored, sample_answers(path), "{path}"));
 }
 
 /// What the C call for a cell answers: 16 before all else, then the file's refusal, then that of building the knots.

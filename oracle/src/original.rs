@@ -89,14 +89,20 @@ impl Store {
         }
     }
 
+    fn read_point(&self, point: &Shared) -> Point {
+        let point = point.read();
+        let (horizontal, vertical) = point.knot_coordinates();
+        Point { sides: std::array::from_fn(|d| self.side(&point, d)), coordinates: [horizontal, vertical] }
+    }
+
     /// The store as it stands.
     pub fn read(&self) -> Vec<Point> {
-        let read = |point: &Shared| {
-            let point = point.read();
-            let (horizontal, vertical) = point.knot_coordinates();
-            Point { sides: std::array::from_fn(|d| self.side(&point, d)), coordinates: [horizontal, vertical] }
-        };
-        self.points.iter().map(read).collect()
+        self.points.iter().map(|point| self.read_point(point)).collect()
+    }
+
+    /// The point made last.
+    pub fn last(&self) -> Point {
+        self.read_point(self.points.last().expect("a point was made"))
     }
 }
 
@@ -141,6 +147,24 @@ impl Map {
                 refusal
             }
         }
+    }
+
+    /// A map like this one that shares no point with it.
+    fn copy(&self) -> Map {
+        let (mesh, points) = self.mesh.copy(&self.store.points);
+        Map { store: Store { points }, mesh }
+    }
+
+    /// The insertion on a copy, which is thrown away where it is torn, and else taken for the map. A copy that is thrown away is
+    /// handed out to be looked at.
+    pub fn add_or_withdraw(&mut self, position: [f64; 3], con: u8, d: usize, ratio: f64) -> (u8, Option<Map>) {
+        let mut copy = self.copy();
+        let number = copy.add_control_point(position, con, d, ratio);
+        if number == TORN {
+            return (number, Some(copy));
+        }
+        *self = copy;
+        (number, None)
     }
 
     pub fn subs(&self, s: f64, t: f64) -> Result<[f64; 3], u8> {

@@ -4,7 +4,7 @@
 use crate::basis_cases;
 use crate::bound;
 use crate::compare::Tally;
-use crate::draw::{MapList, Plan, full_map, map, parameter};
+use crate::draw::{MapList, Plan, Withdrawing, full_map, map, parameter};
 use crate::file_cases;
 use crate::map_calls::MapCall;
 use crate::map_cases;
@@ -135,14 +135,15 @@ fn probed(mut list: MapList, random: &mut Random) -> MapList {
 }
 
 fn map_list(random: &mut Random, place: usize) -> MapList {
+    let withdrawing = Withdrawing::of(place);
     if place % 100 == 0 {
-        let mut list = full_map(random);
+        let mut list = full_map(random, withdrawing);
         map_cases::some_cells(&mut list, random, CELLS);
         list.call(MapCall::Counts);
         return list;
     }
     let edits = random.of(&[3, 6, 10, 20, 40]);
-    let plan = Plan { edits: random.below(edits) + 1, questions: true, direct_calls: place % 5 == 0 };
+    let plan = Plan { edits: random.below(edits) + 1, questions: true, direct_calls: place % 5 == 0, withdrawing };
     let list = map(random, plan);
     probed(list, random)
 }
@@ -204,22 +205,27 @@ fn bases(random: &mut Random, count: usize) -> usize {
 }
 
 fn files(random: &mut Random, count: usize) -> usize {
-    judge(
+    let mut runs = file_cases::Runs::default();
+    let different = judge(
         "file_replay",
         count,
         |place| {
             let case = file_cases::fresh(random, place);
             let bytes = file_cases::encoded(&case);
+            runs.count(&case);
             (case, bytes)
         },
         |program, case| match case.edits() {
             Some((file, edits)) => {
                 let again = |edits: &[_]| file_cases::encoded(&case.with_edits(&file, edits));
-                format!("border {:?}, corners {:?}{}", file.border, file.corners, lines(&program.shrink(&edits, again)))
+                let head = format!("version {}, border {:?}, corners {:?}", file.version, file.border, file.corners);
+                head + &lines(&program.shrink(&edits, again))
             }
             None => format!("a refused file of {} bytes", case.length()),
         },
-    )
+    );
+    runs.print();
+    different
 }
 
 /// So many evaluations with hostile numbers: none outside 0 to 1, and the proved program gives the same bits.

@@ -359,6 +359,17 @@ pub enum Insertion {
     Refused(u8),
 }
 
+impl Insertion {
+    /// The answer's number, 0 for done.
+    pub fn number(self) -> u8 {
+        match self {
+            Insertion::Done(_) => 0,
+            Insertion::Torn(..) => TORN,
+            Insertion::Refused(number) => number,
+        }
+    }
+}
+
 /// An evaluation's answer: the position and its total weight.
 #[derive(Clone, Copy, Debug)]
 pub struct Value {
@@ -458,6 +469,17 @@ impl Map {
         self.listed.push(p);
         self.kept = None;
         Insertion::Done(counts)
+    }
+
+    /// An insertion by a rule on torn ones: they stay, or they are withdrawn (Ticket 5 of document 02). The map after a withdrawn one
+    /// is the one before it, kept knots included.
+    pub fn add_by_rule(&mut self, withdraws: bool, position: [f64; 3], con: u8, d: usize, ratio: f64) -> Insertion {
+        let before = withdraws.then(|| self.clone());
+        let answer = self.add_control_point(position, con, d, ratio);
+        if let (Insertion::Torn(..), Some(before)) = (answer, before) {
+            *self = before;
+        }
+        answer
     }
 
     /// Builds the knots of all listed points anew. A ray's refusal is returned and leaves the map as it was: only an insertion
