@@ -74,9 +74,9 @@ fn bytes(edits: &[Edit]) -> Vec<u8> {
     out
 }
 
-/// The map file with these edits.
-fn map_file(edits: &[Edit]) -> Vec<u8> {
-    let mut body = vec![1];
+/// The map file of a version with these edits.
+fn map_file(version: u8, edits: &[Edit]) -> Vec<u8> {
+    let mut body = vec![version];
     for float in [BORDER].iter().chain(CORNERS.iter().flatten()) {
         body.extend(float.to_bits().to_be_bytes());
     }
@@ -93,18 +93,36 @@ fn any_edit(random: &mut Random, made: usize) -> Edit {
     }
 }
 
-/// An edit that is done, or one that is refused, and the map after it.
-fn edit_that_is(random: &mut Random, map: &mut reading::Map, done: bool) -> Edit {
+/// What becomes of an edit.
+#[derive(Clone, Copy, PartialEq)]
+enum Outcome {
+    Done,
+    Torn,
+    Refused,
+}
+
+/// What becomes of an edit by its answer. Of one that is torn by a ring nothing is said: the published Rust may not end there.
+fn outcome(answer: reading::Insertion) -> Option<Outcome> {
+    match answer {
+        reading::Insertion::Done(_) => Some(Outcome::Done),
+        reading::Insertion::Torn(_, reading::RING) => None,
+        reading::Insertion::Torn(..) => Some(Outcome::Torn),
+        reading::Insertion::Refused(_) => Some(Outcome::Refused),
+    }
+}
+
+/// An edit of which this becomes, and the map after it, from which a torn one is withdrawn.
+fn edit_that_is(random: &mut Random, map: &mut reading::Map, wanted: Outcome) -> Edit {
     loop {
-        let edit = any_edit(random, map.store.made());
+        let mut edit = any_edit(random, map.store.made());
+        if wanted == Outcome::Torn {
+            edit.ratio = random.of(&[0.0, 1.0]);
+        }
         let mut tried = map.clone();
-        match tried.add_control_point(edit.position, edit.point, edit.direction as usize, edit.ratio) {
-            reading::Insertion::Done(_) if done => {
-                *map = tried;
-                return edit;
-            }
-            reading::Insertion::Refused(_) if !done => return edit,
-            _ => {}
+        let answer = tried.add_by_rule(true, edit.position, edit.point, edit.direction as usize, edit.ratio);
+        if outcome(answer) == Some(wanted) {
+            *map = tried;
+            return edit;
         }
     }
 }
@@ -113,15 +131,21 @@ fn edit_that_is(random: &mut Random, map: &mut reading::Map, done: bool) -> Edit
 fn drawn(points: usize) -> Vec<Edit> {
     let mut random = Random::new(20030727);
     let mut map = reading::Map::new(CORNERS, BORDER);
-    (4..points).map(|_| edit_that_is(&mut random, &mut map, true)).collect()
+    (4..points).map(|_| edit_that_is(&mut random, &mut map, Outcome::Done)).collect()
 }
 
-/// The edits of a file that fills the store: done ones, evenly among refused ones.
-fn filling() -> Vec<Edit> {
+/// The edits of a file: so many done ones, evenly among ones of which something else becomes.
+fn done_among(done: usize, others: Outcome) -> Vec<Edit> {
     let mut random = Random::new(20030727);
     let mut map = reading::Map::new(CORNERS, BORDER);
-    let done_by = |place: usize| place * (MOST_POINTS - 4) / FILE_EDITS;
-    (0..FILE_EDITS).map(|place| edit_that_is(&mut random, &mut map, done_by(place) < done_by(place + 1))).collect()
+    let done_by = |place: usize| place * done / FILE_EDITS;
+    let wanted = |place: usize| if done_by(place) < done_by(place + 1) { Outcome::Done } else { others };
+    (0..FILE_EDITS).map(|place| edit_that_is(&mut random, &mut map, wanted(place))).collect()
+}
+
+/// The edits of a file that fills the store, most of them refused.
+fn filling() -> Vec<Edit> {
+    done_among(MOST_POINTS - 4, Outcome::Refused)
 }
 
 /// The edits of a file drawn without a look at the map: a point below 128, a direction, a ratio in 1,024ths.
@@ -165,22 +189,47 @@ fn median(mut times: Vec<f64>) -> f64 {
     times[times.len() / 2]
 }
 
-/// One line of the table: all sides in turn, several times over. It gives the time of this side.
-fn line(name: &str, per_turn: f64, turns: u64, edits: &[Edit], file: &[u8], host: Host, locks: Rust, cells: Rust) -> f64 {
-    let (mut ours, mut theirs, mut plain) = (Vec::new(), Vec::new(), Vec::new());
+/// The times of pieces of work that take turns, several times over.
+fn in_turns<const N: usize>(turns: u64, work: [&dyn Fn(u64) -> u64; N]) -> [f64; N] {
+    let mut times = [const { Vec::new() }; N];
     for _ in 0..7 {
-        ours.push(slope(|repeats| unsafe { host(file.as_ptr(), file.len(), repeats) }, turns) / per_turn);
-        theirs.push(slope(|repeats| locks(edits, repeats), turns) / per_turn);
-        plain.push(slope(|repeats| cells(edits, repeats), turns) / per_turn);
+        times.iter_mut().zip(work).for_each(|(times, run)| times.push(slope(run, turns)));
     }
-    let (ours, theirs, plain) = (median(ours), median(theirs), median(plain));
-    println!("{name:56} {ours:10.1} {theirs:10.1} {plain:10.1} {:8.2} {:8.2}", ours / theirs, ours / plain);
-    ours
+    times.map(median)
+}
+
+/// A piece of work of this side, so many times.
+fn ours(host: Host, file: &[u8]) -> impl Fn(u64) -> u64 {
+    move |repeats| unsafe { host(file.as_ptr(), file.len(), repeats) }
+}
+
+/// A line of all sides' times, with what else there is to say.
+fn show(name: &str, [ours, theirs, plain]: [f64; 3], beside: &str) {
+    let row = format!("{name:56} {ours:10.1} {theirs:10.1} {plain:10.1} {:8.2} {:8.2} {beside}", ours / theirs, ours / plain);
+    println!("{}", row.trim_end());
+}
+
+/// One line of the table: all sides in turn. It gives the time of this side.
+fn line(name: &str, per_turn: f64, turns: u64, edits: &[Edit], file: &[u8], host: Host, locks: Rust, cells: Rust) -> f64 {
+    let work: [&dyn Fn(u64) -> u64; 3] = [&ours(host, file), &|repeats| locks(edits, repeats), &|repeats| cells(edits, repeats)];
+    let times = in_turns(turns, work).map(|time| time / per_turn);
+    show(name, times, "");
+    times[0]
+}
+
+/// A line of a file of version 2, beside the Rust that makes each edit on a copy, and beside the same file of version 1, which takes its turns too.
+fn line_withdrawing(name: &str, turns: u64, edits: &[Edit]) {
+    let [first, second] = [1, 2].map(|version| map_file(version, edits));
+    let locks = |repeats| locks::copied_files(edits, repeats);
+    let cells = |repeats| cells::copied_files(edits, repeats);
+    let [time, theirs, plain, stays] = in_turns(turns, [&ours(files, &second), &locks, &cells, &ours(files, &first)]);
+    let beside = format!("{:.2} of version 1, which takes {stays:.1}", time / stays);
+    show(&format!("file of {name}, version 2"), [time, theirs, plain], &beside);
 }
 
 /// A line of work that the Rust has not, with what its time says beside another of this side.
 fn line_alone(name: &str, turns: u64, file: &[u8], host: Host, beside: impl Fn(f64) -> String) {
-    let ours = median((0..7).map(|_| slope(|repeats| unsafe { host(file.as_ptr(), file.len(), repeats) }, turns)).collect());
+    let [ours] = in_turns(turns, [&ours(host, file)]);
     println!("{name:56} {ours:10.1} {:>10} {:>10} {:>8} {:>8} {}", "-", "-", "-", "-", beside(ours));
 }
 
@@ -225,10 +274,19 @@ fn main() {
         ("1,000 edits drawn blindly", any_edits()),
     ] {
         let turns = 20000 / (edits.len() as u64 + 10);
-        let file = map_file(&edits);
+        let file = map_file(1, &edits);
         let set_point = line(&format!("file of {name}"), 1.0, turns, &edits, &file, files, locks::files, cells::files);
         let of_set_point = |time: f64| format!("{:.2} of its set-point", time / set_point);
         line_alone(&format!("points of a cell, file of {name}"), turns, &file, file_cells, of_set_point);
         line_alone(&format!("report of a file of {name}"), turns, &file, bench_reports, of_set_point);
+    }
+    for (name, edits) in [
+        ("12 edits done", drawn(16)),
+        ("60 edits done", drawn(64)),
+        ("124 edits done", drawn(MOST_POINTS)),
+        ("124 edits done, 876 refused", filling()),
+        ("900 torn edits, 100 done", done_among(100, Outcome::Torn)),
+    ] {
+        line_withdrawing(name, 20000 / (edits.len() as u64 + 10), &edits);
     }
 }

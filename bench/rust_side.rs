@@ -3,14 +3,28 @@ use crate::{BORDER, CORNERS, Edit};
 use published::t_spline::basis_function;
 use std::hint::black_box;
 
-fn map_of(edits: &[Edit]) -> Map {
+/// The map after edits that are made so; one at a point that was never made is left out.
+fn map_by(edits: &[Edit], make: impl Fn(&mut Map, &Edit)) -> Map {
     let mut map = Map::new(CORNERS, BORDER);
     for edit in edits {
         if (edit.point as usize) < map.store.points.len() {
-            map.add_control_point(edit.position, edit.point, edit.direction as usize, edit.ratio);
+            make(&mut map, edit);
         }
     }
     map
+}
+
+fn map_of(edits: &[Edit]) -> Map {
+    map_by(edits, |map, edit| {
+        map.add_control_point(edit.position, edit.point, edit.direction as usize, edit.ratio);
+    })
+}
+
+/// The same with each edit made on a copy, which is thrown away where it is torn.
+fn map_of_copies(edits: &[Edit]) -> Map {
+    map_by(edits, |map, edit| {
+        map.add_or_withdraw(edit.position, edit.point, edit.direction as usize, edit.ratio);
+    })
 }
 
 pub fn insertions(edits: &[Edit], repeats: u64) -> u64 {
@@ -54,6 +68,14 @@ pub fn bases(_: &[Edit], repeats: u64) -> u64 {
     sum.to_bits()
 }
 
+fn set_point(map: Map) -> u64 {
+    map.subs(0.5, 0.5).map_or(0, |position| position[2].to_bits() % 7)
+}
+
 pub fn files(edits: &[Edit], repeats: u64) -> u64 {
-    (0..repeats).map(|_| map_of(edits).subs(0.5, 0.5).map_or(0, |position| position[2].to_bits() % 7)).sum()
+    (0..repeats).map(|_| set_point(map_of(edits))).sum()
+}
+
+pub fn copied_files(edits: &[Edit], repeats: u64) -> u64 {
+    (0..repeats).map(|_| set_point(map_of_copies(edits))).sum()
 }
