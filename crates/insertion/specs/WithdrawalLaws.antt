@@ -69,3 +69,9 @@ module _ (withdraws : Bool) (e : Float) (points after : Points) (made : ℕ) (li
       let a = inserts rest store held is in
       let result = insertPoint e store listed con d ratio in
       (a .0, subst (λ (b : Bool). Held points rest (cond b store (result .store))) (sym (ap (isWithdrawn withdraws) (sym (a .0)) ∙ withdrawn)) held)
+
+-- by the rule that withdraws, where that is the rule
+pub by-rule : (withdraws : Bool) (e : Float) (points after : Points) (made : ℕ) (listed : Bool) (con : ℕ) (d : TmeshDirection) (ratio : Float) (answer : InsertAnswer) → withdraws ≡ true
+    → InsertsBy true e points made listed con d ratio answer after → InsertsBy withdraws e points made listed con d ratio answer after
+by-rule withdraws e points after made listed con d ratio answer is inserts =
+    subst (λ (rule : Bool). InsertsBy rule e points made listed con d ratio answer after) (sym is) inserts

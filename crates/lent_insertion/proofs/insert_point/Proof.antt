@@ -1,24 +1,15 @@
--- `insert_point` meets its contract: the checks, p placed, its first side, and its second unless the first was torn, are the definition's.
-use Prim.Native.Nat.{ℕ, _+_}
-use mathlib.Core.Path.{_≡_, refl, _∙_, sym, ap, subst}
-use native.Mathlib.Omega.{arith}
+-- `insert_point` meets its contract: the checks are the definition's, and so is what follows where they pass.
+use Prim.Native.Nat.{ℕ}
+use mathlib.Core.Path.{_≡_, _∙_, sym}
 use denote.Ref.{now}
 use lib.Ieee.{Float}
-use Rattle.control_point.specs.Direction.{antiClockwiseOf, flipOf}
-use Rattle.control_point.specs.DirectionLaws.{flip-clockwise}
 use Rattle.control_point.specs.PointLaws.{isMade-made}
 use Rattle.control_point.specs.Sides.{Sides, lentSides}
-use Rattle.control_point.specs.declared.t_mesh_direction.TmeshDirection.{TmeshDirection}
-use Rattle.lent_points.specs.Lent.{Points, lentPoints}
-use Rattle.lent_insertion.proofs.Told.{torn, untorn}
-use Rattle.insertion.specs.Insert.{newSide, unlessTorn, answerOf, checkedLink}
-use Rattle.insertion.specs.InsertLaws.{Passing, checked-passes}
-use Rattle.insertion.specs.Lent.{pointsWithNew, Inserts}
-use Rattle.insertion.specs.LentLaws.{Crossed, inserts-refused, inserts-passed}
-use Rattle.insertion.specs.declared.insertion.NewSide.{NewSide}
-use Rattle.insertion.specs.declared.insertion.NewSide.the-variants.{Stays}
+use Rattle.lent_points.specs.Lent.{lentPoints}
+use Rattle.insertion.specs.Insert.{checkedLink}
+use Rattle.insertion.specs.InsertLaws.{checked-passes}
+use Rattle.insertion.specs.LentLaws.{inserts-refused}
 use Rattle.insertion.specs.declared.insertion.Checked.the-variants.{Passed}
-use Rattle.insertion.specs.declared.insertion.InsertAnswer.{InsertAnswer}
 use borrow.Author.Needs.{needs}
 use Rattle.lent_insertion.proofs.insert_point.Statement.{statement}
 use Rattle.lent_insertion.proofs.insert_point.Tie as tie
@@ -43,57 +34,6 @@ passes : (c : tie.After-other) → let a = begun (checked-of c) .args in
     checkedLink (a .closeness) (a .ratio) (a .listed) (sides (checked-of c)) (a .made) (a .con) (a .direction) ≡ Passed (other-of c) (interval-of c)
 passes c = sym (checked-of c .check-link .ensures) ∙ c .other .given .1
 
-passing : (c : tie.After-other) → let a = begun (checked-of c) .args in Passing (a .made) (a .con) (other-of c)
-passing c = let a = begun (checked-of c) .args in checked-passes (a .closeness) (a .ratio) (a .listed) (a .made) (a .con) (other-of c) (interval-of c) (sides (checked-of c)) (a .direction) (passes c)
-
--- p placed, and its first side
-abbrev placed-of : tie.After-cross → tie.After-place
-placed-of c = c .before .before .before .before .before .before
-
-abbrev passed-of : tie.After-cross → tie.After-other
-passed-of c = placed-of c .before .before .before .before .before .before
-
-abbrev start-of : tie.After-cross → tie.Start
-start-of c = begun (checked-of (passed-of c))
-
-crossed : (c : tie.After-cross) (second : NewSide) (after : Points) → let a = start-of c .args in
-    let q = c .cross .last .1 in
-    second ≡ unlessTorn (c .cross .result) (newSide (a .closeness) (lentSides (q .0) (q .1 .0) (q .1 .1 .0)) (a .made + 1) (a .con) (a .made) (antiClockwiseOf (a .direction)))
-    → after ≡ pointsWithNew (lentPoints (q .0) (q .1 .0) (q .1 .1 .0) (q .1 .1 .1 .0)) (a .made) (antiClockwiseOf (a .direction)) second
-    → Crossed (a .closeness) (lentPoints (now (a .kinds)) (now (a .numbers)) (now (a .intervals)) (now (a .coordinates))) (a .made) (a .con) (other-of (passed-of c)) (a .direction) (interval-of (passed-of c)) (a .ratio) (c .cross .result) second after
-unfolding lentPoints
-crossed c second after second-is after-is =
-    let a = start-of c .args in
-    let p = placed-of c .place .last in
-    let q = c .cross .last .1 in
-    let turned = c .before .before .before .before .before .clockwise .ensures in
-    record {
-      placedSides = lentSides (p .0) (p .1 .0) (p .1 .1 .0);
-      placedCoordinates = p .1 .1 .1 .0;
-      is-placed = placed-of c .place .ensures .1;
-      first-is = c .cross .ensures .0 ∙ ap (newSide (a .closeness) (lentSides (p .0) (p .1 .0) (p .1 .1 .0)) (a .made + 1) (a .con) (a .made)) turned;
-      crossedSides = lentSides (q .0) (q .1 .0) (q .1 .1 .0);
-      crossedCoordinates = q .1 .1 .1 .0;
-      is-crossed =
-          c .cross .ensures .1 .1
-          ∙ ap (λ (f : TmeshDirection). pointsWithNew (lentPoints (p .0) (p .1 .0) (p .1 .1 .0) (p .1 .1 .1 .0)) (a .made) f (c .cross .result)) turned;
-      second-is = second-is;
-      after-is = after-is;
-    }
-
-inserts : (c : tie.After-cross) (second : NewSide) (after : Points) → let a = start-of c .args in
-    let q = c .cross .last .1 in
-    second ≡ unlessTorn (c .cross .result) (newSide (a .closeness) (lentSides (q .0) (q .1 .0) (q .1 .1 .0)) (a .made + 1) (a .con) (a .made) (antiClockwiseOf (a .direction)))
-    → after ≡ pointsWithNew (lentPoints (q .0) (q .1 .0) (q .1 .1 .0) (q .1 .1 .1 .0)) (a .made) (antiClockwiseOf (a .direction)) second
-    → (answer : InsertAnswer) → answer ≡ answerOf (c .cross .result) second
-    → Inserts (a .closeness) (lentPoints (now (a .kinds)) (now (a .numbers)) (now (a .intervals)) (now (a .coordinates))) (a .made) (a .listed) (a .con) (a .direction) (a .ratio) answer after
-unfolding lentPoints
-inserts c second after second-is after-is answer answered =
-    let a = start-of c .args in
-    let o = passed-of c in
-    subst (λ (r : InsertAnswer). Inserts (a .closeness) (lentPoints (now (a .kinds)) (now (a .numbers)) (now (a .intervals)) (now (a .coordinates))) (a .made) (a .listed) (a .con) (a .direction) (a .ratio) r after) (sym answered)
-    (inserts-passed (a .closeness) (a .ratio) (a .listed) (a .con) (other-of o) (a .direction) (sides (checked-of o)) (now (a .coordinates)) (a .made) (interval-of o) (c .cross .result) second after (passes o) (crossed c second after second-is after-is))
-
 check-link-requires : tie.Need-check-link-requires
 check-link-requires c κs = search needs
 
@@ -103,54 +43,16 @@ enum-known-refusal c = search needs
 enum-known-other : tie.Need-enum-known-other
 enum-known-other c = search needs
 
-place-requires : tie.Need-place-requires
-place-requires c κs =
+insert-passed-requires : tie.Need-insert-passed-requires
+insert-passed-requires c κs =
     let o = c .before .before .before .before .before in
-    let w = passing o in
+    let a = begun (checked-of o) .args in
+    let w = checked-passes (a .closeness) (a .ratio) (a .listed) (a .made) (a .con) (other-of o) (interval-of o) (sides (checked-of o)) (a .direction) (passes o) in
     ((isMade-made _ _ (w .con-made), (isMade-made _ _ (w .other-made), w .roomy)), begun (checked-of o) .pre)
 
-clockwise-requires : tie.Need-clockwise-requires
-clockwise-requires c κs = search needs
-
-add-cross : tie.Need-add-cross
-add-cross c =
-    let o = c .before .before .before .before .before .before .before .before .before .before .before in
-    omega (arith, passing o .roomy)
-
-cross-requires : tie.Need-cross-requires
-cross-requires c κs =
-    let p = c .before .before .before .before .before in
-    (passing (p .before .before .before .before .before .before) .roomy, p .place .ensures .0)
-
-enum-told : tie.Need-enum-told
-enum-told c = search needs
-
-answer-of-requires : tie.Need-answer-of-requires
-answer-of-requires c κs = search needs
-
 returns : tie.Need-returns
-returns c =
-    let t = c .before in
-    let x = t .before .before in
-    (x .cross .ensures .1 .0, inserts x Stays _ (torn (x .cross .result) _ (t .enum-told .given .1)) refl _ (c .answer-of .ensures))
-
-add-cross-2 : tie.Need-add-cross-2
-add-cross-2 c = omega (arith, passing (passed-of (c .before .before .before .before .before)) .roomy)
-
-flip-requires : tie.Need-flip-requires
-flip-requires c κs = search needs
-
-cross-requires-2 : tie.Need-cross-requires-2
-cross-requires-2 c κs =
-    let x = c .before .before .before .before .before .before in
-    (passing (passed-of x) .roomy, x .cross .ensures .1 .0)
-
-answer-of-requires-2 : tie.Need-answer-of-requires-2
-answer-of-requires-2 c κs = search needs
-
-returns-2 : tie.Need-returns-2
 unfolding lentPoints
-returns-2 c =
+returns c =
     let r = c .before in
     let x = r .before .before in
     let b = begun x in
@@ -159,22 +61,10 @@ returns-2 c =
       inserts-refused (a .closeness) (a .ratio) (a .listed) (a .con) (a .direction) (sides x) (now (a .coordinates)) (a .made) _ (sym (x .check-link .ensures) ∙ r .refusal .given .1),
     )
 
-returns-3 : tie.Need-returns-3
-returns-3 c =
-    let y = c .before in
-    let m = y .before .before .before .before .before .before in
-    let x = m .before in
-    let a = start-of x .args in
-    let q = x .cross .last .1 in
-    let turned : y .before .flip .result ≡ antiClockwiseOf (a .direction) = y .before .flip .ensures ∙ ap flipOf (x .before .before .before .before .before .clockwise .ensures) ∙ flip-clockwise (a .direction) in (
-      y .cross2 .ensures .1 .0,
-      inserts x (y .cross2 .result) _
-          (y .cross2 .ensures .0
-          ∙ ap (newSide (a .closeness) (lentSides (q .0) (q .1 .0) (q .1 .1 .0)) (a .made + 1) (a .con) (a .made)) turned
-          ∙ sym (untorn (x .cross .result) _ (m .match2 .keys2)))
-          (y .cross2 .ensures .1 .1 ∙ ap (λ (g : TmeshDirection). pointsWithNew (lentPoints (q .0) (q .1 .0) (q .1 .1 .0) (q .1 .1 .1 .0)) (a .made) g (y .cross2 .result)) turned)
-          _ (c .answer-of2 .ensures),
-    )
+returns-2 : tie.Need-returns-2
+returns-2 c =
+    let o = c .before .before .before .before .before .before in
+    (c .insert-passed .ensures .0, c .insert-passed .ensures .1 (begun (checked-of o) .args .listed) (passes o))
 
 pub insert-point-spec : {M : Type 1} → statement M
 insert-point-spec =
@@ -183,16 +73,6 @@ insert-point-spec =
     check-link-requires
     enum-known-refusal
     enum-known-other
-    place-requires
-    clockwise-requires
-    add-cross
-    cross-requires
-    enum-told
-    answer-of-requires
+    insert-passed-requires
     returns
-    add-cross-2
-    flip-requires
-    cross-requires-2
-    answer-of-requires-2
-    returns-2
-    returns-3)
+    returns-2)
