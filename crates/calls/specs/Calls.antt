@@ -1,6 +1,6 @@
 -- A list of calls on one map. Its entries are insertions, those that stay where they are torn (`add_control_point`) and those that are then withdrawn (`add_or_withdraw`), evaluations
 -- (`subs`) and questions which points reach a cell (`cell_points`), in any order, with any arguments, whatever they answer. Each gets the map as the one before left it, after a refusal
--- too. The calls are the definitions that the contracts of the code cite.
+-- too. The calls are the definitions that the contracts of the code cite; that of `add_control_point` is by the rule that lets torn insertions stay (`added-staying`, crates/t_mesh/specs/InsertionLaws.antt).
 use Prim.Native.Nat.{ℕ}
 use mathlib.Core.Bool.{Bool, false}
 use mathlib.Core.List.{List, [], _∷_}
@@ -28,20 +28,20 @@ pub data Answer : Type 0 where
   questioned : CellAnswer → Answer
 
 -- whether a call withdraws a torn insertion
-abbrev pub withdraws : Call → Bool
-withdraws (insertion rule con d ratio position) = rule
-withdraws (evaluation s t) = false
-withdraws (question cell) = false
+abbrev pub callWithdraws : Call → Bool
+callWithdraws (insertion withdraws con d ratio position) = withdraws
+callWithdraws (evaluation s t) = false
+callWithdraws (question cell) = false
 
 -- what a call on a map answers, with closeness e
 abbrev pub answerTo : Float → Tmesh → Call → Answer
-answerTo e map (insertion rule con d ratio position) = inserted (addByRule rule e map con d ratio position .answer)
+answerTo e map (insertion withdraws con d ratio position) = inserted (addByRule withdraws e map con d ratio position .answer)
 answerTo e map (evaluation s t) = evaluated (subsOf e map s t .answer)
 answerTo e map (question cell) = questioned (cellPoints e map cell .answer)
 
 -- the map after it
 abbrev pub mapAfter : Float → Tmesh → Call → Tmesh
-mapAfter e map (insertion rule con d ratio position) = addByRule rule e map con d ratio position .map
+mapAfter e map (insertion withdraws con d ratio position) = addByRule withdraws e map con d ratio position .map
 mapAfter e map (evaluation s t) = subsOf e map s t .map
 mapAfter e map (question cell) = cellPoints e map cell .map
 

@@ -36,8 +36,8 @@ use Rattle.calls.specs.FullStroke.{InUnit, Each, DoneInUnit as CallDoneInUnit, 
 use Rattle.calls.specs.FullStrokeProof.{never-past-full-stroke}
 use Rattle.mirror.specs.BoolLaws.{cond-case}
 use Rattle.soundness.specs.MapCalls.{answerTold}
-use Rattle.map_format.specs.Format.{borderAt, editsAt, editCount, versionOf, isVersion, Edit, editsFrom, lengthRight, headingsRight, checkedFile}
-use Rattle.map_file.specs.Run.{cornerOf, freshMap, edited, afterEdits, editAnswers, editNumbers, fileWithdraws, fileMap, fileNumbers, checkedSetPoint, fileSetPoint}
+use Rattle.map_format.specs.Format.{borderAt, editsAt, fileWithdraws, editCount, versionOf, isVersion, Edit, editsFrom, lengthRight, headingsRight, checkedFile}
+use Rattle.map_file.specs.Run.{cornerOf, freshMap, edited, afterEdits, editAnswers, editNumbers, fileMap, fileNumbers, checkedSetPoint, fileSetPoint}
 use Rattle.map_format.specs.declared.format.FileCheck.{FileCheck}
 use Rattle.map_format.specs.declared.format.FileCheck.the-variants.{Valid, Refused as NotValid}
 use Rattle.value_bytes.specs.Value.{bitsOf, bytesOfValue}

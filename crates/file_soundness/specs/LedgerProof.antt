@@ -13,20 +13,20 @@ use Rattle.openings.specs.OpeningsLaws.{answer-count}
 use Rattle.calls.specs.Calls.{runOf}
 use Rattle.soundness.specs.MapCalls.{mapAfterAll, entries}
 use Rattle.ledger.specs.Ledger.{enteredBefore, entered}
-use Rattle.ledger.specs.Theorem.{insertionAnswers, HasLedger}
+use Rattle.ledger.specs.Theorem.{enteredAnswers, HasLedger}
 use Rattle.ledger.specs.TheoremProof.{ledger-of-sides}
-use Rattle.map_format.specs.Format.{borderAt, editsAt, Edit, editsFrom}
-use Rattle.map_file.specs.Run.{cornerOf, freshMap, edited, editAnswers, fileWithdraws, fileMap, fileNumbers}
+use Rattle.map_format.specs.Format.{borderAt, editsAt, fileWithdraws, Edit, editsFrom}
+use Rattle.map_file.specs.Run.{cornerOf, freshMap, edited, editAnswers, fileMap, fileNumbers}
 use Rattle.report_lines.specs.Lines.{editLines, countsLine, openLines, midLine}
 use Rattle.gatemap_host.specs.SetPoint.{hostAnswer}
 use Rattle.file_soundness.specs.CallsLaws.{callsOf, edits-are-calls}
 use Rattle.file_soundness.specs.EndsProof.{ends-agree}
-use Rattle.file_soundness.specs.Theorems.{halfBits, fileEntries, FileLedger, ReportByAnswers}
+use Rattle.file_soundness.specs.Theorems.{halfBits, fileEntered, FileLedger, ReportByAnswers}
 
 -- the answers of the calls that the ledger has are those of the edits
 calls-answer : (withdraws : Bool) (e : Float) (edits : List Edit) (before : Tmesh)
-    → insertionAnswers (runOf e before (callsOf withdraws edits)) ≡ entered withdraws (editAnswers withdraws e before edits)
-unfolding runOf callsOf insertionAnswers entered editAnswers
+    → enteredAnswers (runOf e before (callsOf withdraws edits)) ≡ entered withdraws (editAnswers withdraws e before edits)
+unfolding runOf callsOf enteredAnswers entered editAnswers
 calls-answer withdraws e [] before = refl
 calls-answer withdraws e (edit ∷ rest) before =
     ap (enteredBefore withdraws (edited withdraws e before edit .answer)) (calls-answer withdraws e rest (edited withdraws e before edit .map))
@@ -36,7 +36,7 @@ file-ledger e file count =
     let edits = editsFrom count file editsAt in
     let fresh = freshMap file in
     let withdraws = fileWithdraws file in
-    subst (λ (after : Tmesh). HasLedger after (fileEntries e file count)) (sym (edits-are-calls withdraws e fresh edits))
+    subst (λ (after : Tmesh). HasLedger after (fileEntered e file count)) (sym (edits-are-calls withdraws e fresh edits))
     (subst (HasLedger (mapAfterAll e fresh (entries (callsOf withdraws edits)))) (calls-answer withdraws e edits fresh)
     (ledger-of-sides e (floatAt file borderAt) (cornerOf file 0) (cornerOf file 1) (cornerOf file 2) (cornerOf file 3) (callsOf withdraws edits)))
 

@@ -19,8 +19,8 @@ use Rattle.t_mesh.specs.declared.t_mesh.Tmesh.{Tmesh}
 use Rattle.soundness.specs.MapCalls.{entries}
 use Rattle.soundness.specs.Theorems.{OneOf}
 use Rattle.soundness.specs.EveryMapProof.{evaluation-refusals, question-refusals}
-use Rattle.map_format.specs.Format.{borderAt, editsAt, editCount, versionOf, isVersion, editsFrom, lengthRight, headingsRight, checkedFile}
-use Rattle.map_file.specs.Run.{cornerOf, freshMap, fileWithdraws, fileMap, checkedSetPoint, fileSetPoint}
+use Rattle.map_format.specs.Format.{borderAt, editsAt, fileWithdraws, editCount, versionOf, isVersion, editsFrom, lengthRight, headingsRight, checkedFile}
+use Rattle.map_file.specs.Run.{cornerOf, freshMap, fileMap, checkedSetPoint, fileSetPoint}
 use Rattle.map_format.specs.declared.format.FileCheck.{FileCheck}
 use Rattle.map_format.specs.declared.format.FileCheck.the-variants.{Valid, Refused}
 use Rattle.value_bytes.specs.Value.{valueBytes}

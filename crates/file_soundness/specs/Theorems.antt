@@ -21,8 +21,8 @@ use Rattle.calls.specs.FullStroke.{InUnit}
 use Rattle.soundness.specs.Theorems.{OneOf}
 use Rattle.ledger.specs.Ledger.{entered, countsBy, openingsBy}
 use Rattle.ledger.specs.Theorem.{HasLedger}
-use Rattle.map_format.specs.Format.{borderAt, editsAt, editCount, Edit, editsFrom, checkedFile}
-use Rattle.map_file.specs.Run.{cornerOf, edited, afterEdits, editAnswers, fileWithdraws, fileMap, fileAnswers, fileNumbers}
+use Rattle.map_format.specs.Format.{borderAt, editsAt, fileWithdraws, editCount, Edit, editsFrom, checkedFile}
+use Rattle.map_file.specs.Run.{cornerOf, edited, afterEdits, editAnswers, fileMap, fileAnswers, fileNumbers}
 use Rattle.map_format.specs.declared.format.FileCheck.the-variants.{Valid, Refused}
 use Rattle.report_text.specs.Text.{fileWord, newline, refusedText}
 use Rattle.openings.specs.Openings.{openingsOf}
@@ -112,26 +112,26 @@ FileCellSays =
     → Says (mapOf file .mesh .listed) (generateKnotVectors millionth (mapOf file) .map .knots) cell (cellIn (hostCellBuffer file cell out))
 
 -- ---- THE LEDGER OF SIDES, for files
--- the answers of a file's edits that the ledger has: those of withdrawn edits are left out
-abbrev pub fileEntries : Float → List ℕ → ℕ → List InsertAnswer
-fileEntries e file count = entered (fileWithdraws file) (fileAnswers e file count)
+-- the answers of a file's edits that are entered in the ledger: those of withdrawn edits are left out, and where torn edits stay none is (`all-entered`)
+abbrev pub fileEntered : Float → List ℕ → ℕ → List InsertAnswer
+fileEntered e file count = entered (fileWithdraws file) (fileAnswers e file count)
 
 -- The map that the edits of a file leave has the points, links, borders and openings that the answers of its edits give, no withdrawn one among them, and each link
 -- has its mirror, with the same interval bits.
 abbrev pub FileLedger : Type 0
-FileLedger = (e : Float) (file : List ℕ) (count : ℕ) → HasLedger (fileMap e file count) (fileEntries e file count)
+FileLedger = (e : Float) (file : List ℕ) (count : ℕ) → HasLedger (fileMap e file count) (fileEntered e file count)
 
 -- What the program prints of a valid file is, but for which sides are open and for the line `mid`, what the answers of its edits give: a line for each that is refused
--- or torn, withdrawn or not, the counts, and as many lines of openings.
+-- or torn, withdrawn or not; and, by those that are not withdrawn, the counts and as many lines of openings.
 abbrev pub ReportByAnswers : Type 0
 ReportByAnswers =
     (file : List ℕ) (count room : ℕ)
     → checkedFile file ≡ Valid count
     → 32 ≤ room
-    → let entries = fileEntries millionth file count in
+    → let answers = fileEntered millionth file count in
     let openings = openingsOf (storeOf (fileMap millionth file count)) in
-    (reportOf file ≡ editLines 1 (fileNumbers millionth file count) ++ (countsLine (countsBy entries) ++ (openLines openings ++ midLine (hostAnswer file halfBits halfBits room))))
-    × (length openings ≡ openingsBy entries)
+    (reportOf file ≡ editLines 1 (fileNumbers millionth file count) ++ (countsLine (countsBy answers) ++ (openLines openings ++ midLine (hostAnswer file halfBits halfBits room))))
+    × (length openings ≡ openingsBy answers)
 
 -- ---- WITHDRAWN EDITS LEAVE NO TRACE
 -- the edits of a list that are not torn, each judged on the map as the run of the list by the rule that withdraws torn ones has it

@@ -14,7 +14,7 @@ use Rattle.insertion.specs.declared.insertion.InsertAnswer.{InsertAnswer
 use Rattle.insertion.specs.declared.insertion.InsertAnswer.the-variants.{Done, Torn, Refused}
 use Rattle.insertion.specs.declared.insertion.Inserted.{Inserted}
 
--- whether the insertion that is so answered is withdrawn, where torn ones are or are not
+-- whether an insertion that is so answered is withdrawn, where torn ones are withdrawn or are not
 abbrev pub isWithdrawn : Bool → InsertAnswer → Bool
 isWithdrawn withdraws answer = withdraws && isTorn answer
 

@@ -1,4 +1,5 @@
 pub mod Ledger
+pub mod EnteredLaws
 pub mod Theorem
 pub mod PriceLaws
 pub mod ChangeLaws

@@ -20,7 +20,7 @@ use Rattle.calls.specs.ExampleValues.{half}
 use Rattle.calls.specs.Readings.{plate}
 use Rattle.soundness.specs.MapCalls.{mapAfterAll, entries}
 use Rattle.ledger.specs.Ledger.{doneOrTorn, sidesOpened, linksInferred}
-use Rattle.ledger.specs.Theorem.{insertionAnswers}
+use Rattle.ledger.specs.Theorem.{enteredAnswers}
 
 -- what those that are not withdrawn answer
 abbrev pub answers : List InsertAnswer
@@ -43,7 +43,7 @@ module _ (bottomLeft bottomRight topRight topLeft position : Position) where
   after = mapAfterAll millionth fresh (entries edits)
 
   pub record LedgerReading : Type 0 where
-    pub answered : insertionAnswers (runOf millionth fresh edits) ≡ answers
+    pub answered : enteredAnswers (runOf millionth fresh edits) ≡ answers
     pub counts : countsOf after ≡ record { made = 8; listed = 6; links = 10; borders = 11 }
     pub openings : openingsAnswer (openingsOf (storeOf after)) .count ≡ 1
 

@@ -18,12 +18,12 @@ use Rattle.openings.specs.Openings.{sidesBelow, openAmong, openingsAnswer}
 use Rattle.calls.specs.Calls.{runOf}
 use Rattle.soundness.specs.MapCalls.{mapAfterAll, entries}
 use Rattle.ledger.specs.Ledger.{total}
-use Rattle.ledger.specs.Theorem.{insertionAnswers}
+use Rattle.ledger.specs.Theorem.{enteredAnswers}
 use Rattle.ledger.specs.Reading.{LedgerReading, EveryLedgerReading}
 
 reading : (bottomLeft bottomRight topRight topLeft position : Position) → LedgerReading bottomLeft bottomRight topRight topLeft position
 unfolding newTmesh addControlPoint insertPoint inUnit checked checkedIntervals placed newSide firstSide withFirst secondSide sided
-    connectPoints connectable isMade sidesOf millionth small findInferredConnection seekFrom judgeAt walkOf onward runOf mapAfterAll entries insertionAnswers
+    connectPoints connectable isMade sidesOf millionth small findInferredConnection seekFrom judgeAt walkOf onward runOf mapAfterAll entries enteredAnswers
     countsOf countBelow sidesBelow openAmong openingsAnswer
     le lt eq ofBits ofFields add sub mul div sum round units odd size span climb neg
 reading bottomLeft bottomRight topRight topLeft position = record { answered = refl; counts = refl; openings = refl }

@@ -24,21 +24,21 @@ use Rattle.t_mesh.specs.declared.t_mesh.Position.{Position}
 use Rattle.t_mesh.specs.declared.t_mesh.Tmesh.{Tmesh}
 use Rattle.census.specs.Census.{countsOf}
 use Rattle.openings.specs.Openings.{openingsOf, openingsAnswer}
-use Rattle.calls.specs.Calls.{Call, Answer, inserted, evaluated, questioned, withdraws, Event, runOf}
+use Rattle.calls.specs.Calls.{Call, Answer, inserted, evaluated, questioned, callWithdraws, Event, runOf}
 use Rattle.soundness.specs.MapCalls.{mapAfterAll, entries}
 use Rattle.soundness.specs.Theorems.{EveryMap}
 use Rattle.ledger.specs.Ledger.{enteredBefore, doneOrTorn, sidesOpened, linksInferred, countsBy, openingsBy}
 
 -- an answer before others, if it is that of an insertion that is not withdrawn
 abbrev pub answerBefore : Bool → Answer → List InsertAnswer → List InsertAnswer
-answerBefore rule (inserted answer) rest = enteredBefore rule answer rest
-answerBefore rule (evaluated answer) rest = rest
-answerBefore rule (questioned answer) rest = rest
+answerBefore withdraws (inserted answer) rest = enteredBefore withdraws answer rest
+answerBefore withdraws (evaluated answer) rest = rest
+answerBefore withdraws (questioned answer) rest = rest
 
 -- what the insertions of a run that are not withdrawn answered, in order
-unfoldable pub insertionAnswers : List Event → List InsertAnswer
-insertionAnswers [] = []
-insertionAnswers (event ∷ rest) = answerBefore (withdraws (event .call)) (event .answer) (insertionAnswers rest)
+unfoldable pub enteredAnswers : List Event → List InsertAnswer
+enteredAnswers [] = []
+enteredAnswers (event ∷ rest) = answerBefore (callWithdraws (event .call)) (event .answer) (enteredAnswers rest)
 
 -- what is said of a map and of the answers of the insertions that made it from a fresh one:
 -- the points made and listed, the two-way links and the borders;
@@ -57,7 +57,7 @@ abbrev pub LedgerOfSides : Type 0
 LedgerOfSides =
     (e weight : Float) (bottomLeft bottomRight topRight topLeft : Position) (calls : List Call)
     → let fresh = newTmesh weight bottomLeft bottomRight topRight topLeft in
-    HasLedger (mapAfterAll e fresh (entries calls)) (insertionAnswers (runOf e fresh calls))
+    HasLedger (mapAfterAll e fresh (entries calls)) (enteredAnswers (runOf e fresh calls))
 
 -- ---- with direct calls too
 -- Direct calls change sides by themselves, so that no ledger of insertions holds of a list with them. What holds after every list of calls (`MapCall`), direct ones among them, is that

@@ -39,7 +39,7 @@ use Rattle.soundness.specs.InsertionLaws.{Grown}
 use Rattle.soundness.specs.MapCalls.{entry, mapAfterAll, entries}
 use Rattle.soundness.specs.MapLaws.{SoundMesh, unlisted, insertion-grown, insertion-lists, ready-mesh, sound-call}
 use Rattle.ledger.specs.Ledger.{madeBy, listedBy, openedBy, inferredBy, total, doneOrTorn, insertionsDone, sidesOpened, linksInferred, countsBy}
-use Rattle.ledger.specs.Theorem.{insertionAnswers, HasLedger, LedgerOfSides}
+use Rattle.ledger.specs.Theorem.{enteredAnswers, HasLedger, LedgerOfSides}
 use Rattle.ledger.specs.PriceLaws.{Price, worth}
 use Rattle.ledger.specs.ChangeLaws.{worthOf, Prices}
 use Rattle.ledger.specs.BookingLaws.{Booked, books}
@@ -128,8 +128,8 @@ from-same : {before other after : Mesh} {answers : List InsertAnswer} → before
 from-same {before} {other} {after} {answers} same ran = subst (λ (mesh : Mesh). Follows mesh answers after) same ran
 
 follows : (e : Float) (calls : List Call) (map : Tmesh) → SoundMesh (map .mesh)
-    → Follows (map .mesh) (insertionAnswers (runOf e map calls)) (mapAfterAll e map (entries calls) .mesh)
-unfolding runOf mapAfterAll entries insertionAnswers total subsOf cellPoints
+    → Follows (map .mesh) (enteredAnswers (runOf e map calls)) (mapAfterAll e map (entries calls) .mesh)
+unfolding runOf mapAfterAll entries enteredAnswers total subsOf cellPoints
 follows e [] map sound = record { sound = sound; step = no-step (map .mesh) }
 follows e (insertion withdraws con d ratio position ∷ calls) map sound =
     let added = addControlPoint e map con d ratio position in

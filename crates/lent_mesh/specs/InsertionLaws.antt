@@ -62,7 +62,7 @@ module _ (positions : List (List Float)) (room : length positions ≡ 128) (n : 
 -- was room for the new point, and with its row and whether it is listed they hold that mesh
 pub record InsertsIntoMesh (withdraws : Bool) (e : Float) (points : Points) (made : ℕ) (positions : List (List Float)) (listed : List Bool) (con : ℕ) (d : TmeshDirection) (ratio : Float) (position : Position) (answer : InsertAnswer) (after : Points) : Type 0 where
   pub answered : answer ≡ meshByRule withdraws e (meshOver points made positions listed) con d ratio position .answer
-  pub kept : leavesPoint withdraws answer ≡ false → meshOver after made positions listed ≡ meshByRule withdraws e (meshOver points made positions listed) con d ratio position .mesh
+  pub unplaced : leavesPoint withdraws answer ≡ false → meshOver after made positions listed ≡ meshByRule withdraws e (meshOver points made positions listed) con d ratio position .mesh
   pub room : leavesPoint withdraws answer ≡ true → made < 128
   pub placed : leavesPoint withdraws answer ≡ true → length positions ≡ 128 → (row : List Float) → row ≡ rowOf position → (done : Bool) → done ≡ isDone answer
       → meshOver after (made + 1) (set positions made row) (set listed made done) ≡ meshByRule withdraws e (meshOver points made positions listed) con d ratio position .mesh
@@ -128,4 +128,4 @@ module _ (withdraws : Bool) (e : Float) (points : Points) (made : ℕ) (position
 
   pub lent-inserts : InsertsIntoMesh withdraws e points made positions listed con d ratio position answer after
   unfolding insertIntoMesh
-  lent-inserts = record { answered = held-after .0; kept = mesh-kept; room = λ stands. one-more stands .0; placed = mesh-more }
+  lent-inserts = record { answered = held-after .0; unplaced = mesh-kept; room = λ stands. one-more stands .0; placed = mesh-more }

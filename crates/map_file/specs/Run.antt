@@ -18,7 +18,7 @@ use Rattle.t_mesh.specs.declared.add.InsertedMesh.{InsertedMesh}
 use Rattle.surface.specs.Evaluation.{subsOf, asSetPoint}
 use Rattle.surface.specs.declared.evaluation.EvaluationAnswer.{EvaluationAnswer}
 use Rattle.surface.specs.declared.evaluation.EvaluationAnswer.the-variants.{Refused as NotEvaluated}
-use Rattle.map_format.specs.Format.{borderAt, cornersAt, positionBytes, editsAt, versionOf, withdrawsTorn, positionAt, Edit, editsFrom, checkedFile}
+use Rattle.map_format.specs.Format.{borderAt, cornersAt, positionBytes, editsAt, fileWithdraws, positionAt, Edit, editsFrom, checkedFile}
 use Rattle.map_format.specs.declared.format.FileCheck.{FileCheck}
 use Rattle.map_format.specs.declared.format.FileCheck.the-variants.{Valid, Refused}
 
@@ -57,9 +57,6 @@ abbrev pub SameEdits : List ℕ → ℕ → ℕ → Type 0
 SameEdits bytes at other = (count : ℕ) → editsFrom count bytes at ≡ editsFrom count bytes other
 
 -- ---- a file with so many edits, by its version
-abbrev pub fileWithdraws : List ℕ → Bool
-fileWithdraws bytes = withdrawsTorn (versionOf bytes)
-
 abbrev pub fileMap : Float → List ℕ → ℕ → Tmesh
 fileMap e bytes count = afterEdits (fileWithdraws bytes) e (freshMap bytes) (editsFrom count bytes editsAt)
 

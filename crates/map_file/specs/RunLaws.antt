@@ -23,9 +23,9 @@ use Rattle.t_mesh.specs.declared.t_mesh.Mesh.{Mesh}
 use Rattle.t_mesh.specs.declared.t_mesh.Position.{Position}
 use Rattle.t_mesh.specs.declared.t_mesh.Tmesh.{Tmesh}
 use Rattle.surface.specs.declared.evaluation.EvaluationAnswer.the-variants.{Refused as NotEvaluated}
-use Rattle.map_format.specs.Format.{borderAt, editsAt, editBytes, Edit, editAt, editsFrom, checkedFile}
+use Rattle.map_format.specs.Format.{borderAt, editsAt, editBytes, fileWithdraws, Edit, editAt, editsFrom, checkedFile}
 use Rattle.map_format.specs.FormatLaws.{edit-after}
-use Rattle.map_file.specs.Run.{cornerOf, freshMap, SameEdits, edited, meshEdited, afterEdits, editAnswers, editNumbers, fileWithdraws, fileMap, fileNumbers, setPointAt, checkedSetPoint, fileSetPoint}
+use Rattle.map_file.specs.Run.{cornerOf, freshMap, SameEdits, edited, meshEdited, afterEdits, editAnswers, editNumbers, fileMap, fileNumbers, setPointAt, checkedSetPoint, fileSetPoint}
 use Rattle.map_format.specs.declared.format.FileCheck.the-variants.{Valid, Refused}
 
 -- ---- the map before the edits, by the weight and the corners that were read

@@ -67,12 +67,22 @@ positionIn = 10
 abbrev pub versionOf : List ℕ → ℕ
 versionOf bytes = byteAt bytes versionAt
 
-abbrev pub isVersion : ℕ → Bool
-isVersion version = leb 1 version && leb version 2
+abbrev pub firstVersion : ℕ
+firstVersion = 1
 
--- whether torn edits are withdrawn: from version 2 on
-abbrev pub withdrawsTorn : ℕ → Bool
-withdrawsTorn version = leb 2 version
+abbrev pub lastVersion : ℕ
+lastVersion = 2
+
+abbrev pub isVersion : ℕ → Bool
+isVersion version = leb firstVersion version && leb version lastVersion
+
+-- torn edits are withdrawn from this version on
+abbrev pub withdrawingVersion : ℕ
+withdrawingVersion = 2
+
+-- whether the torn edits of a file are withdrawn
+abbrev pub fileWithdraws : List ℕ → Bool
+fileWithdraws bytes = leb withdrawingVersion (versionOf bytes)
 
 -- ---- what stands at a place
 abbrev pub positionAt : List ℕ → ℕ → Position

@@ -1,7 +1,7 @@
 // What the bytes of a map file say, and which files are refused. The places and sizes are those of docs/FORMATS.md.
 ghost use mathlib.Core.Path.{_≡_};
 ghost use Prim.Native.Nat.{_≤_};
-ghost use Rattle.map_format.specs.Format.{editsAt, mostEdits, versionOf, isVersion, withdrawsTorn, positionAt, editAt, targetOf, lengthRight, headingsRight, checkedFile, fileTold, fileTable};
+ghost use Rattle.map_format.specs.Format.{editsAt, mostEdits, versionOf, isVersion, fileWithdraws, positionAt, editAt, targetOf, lengthRight, headingsRight, checkedFile, fileTold, fileTable};
 use big_endian::after;
 use big_endian::byte_at;
 use big_endian::float_at;
@@ -68,8 +68,8 @@ fn is_version(version: u8) -> bool
 }
 
 // Whether the torn edits of a file are withdrawn.
-pub fn withdraws_torn(file: &[u8]) -> bool
-    ensures { λ r. ⌜ r ≡ withdrawsTorn (versionOf (now (file .entry))) ⌝ }
+pub fn file_withdraws(file: &[u8]) -> bool
+    ensures { λ r. ⌜ r ≡ fileWithdraws (now (file .entry)) ⌝ }
 {
     WITHDRAWING_VERSION <= version_of(file)
 }

@@ -15,7 +15,7 @@ use map_format::format::CORNERS_AT;
 use map_format::format::EDITS_AT;
 use map_format::format::POSITION_BYTES;
 use map_format::format::position_at;
-use map_format::format::withdraws_torn;
+use map_format::format::file_withdraws;
 use packed_map::packed_map;
 use t_mesh::t_mesh::Tmesh;
 
@@ -52,7 +52,7 @@ pub fn run_lent(
         position_at(file, CORNERS_AT + 2 * POSITION_BYTES),
         position_at(file, CORNERS_AT + 3 * POSITION_BYTES),
     );
-    let withdraws = withdraws_torn(file);
+    let withdraws = file_withdraws(file);
     let mut at = EDITS_AT;
     let mut n: usize = 0;
     while n < count {

@@ -13,8 +13,8 @@ use Rattle.surface.specs.declared.evaluation.EvaluationAnswer.{EvaluationAnswer
 use Rattle.surface.specs.declared.evaluation.EvaluationAnswer.the-variants.{Is, Refused as NotEvaluated}
 use Rattle.census.specs.declared.census.Counts.{Counts}
 use Rattle.openings.specs.Openings.{PointSide, pointEntry, directionEntry}
-use Rattle.map_format.specs.Format.{editsAt, editBytes, Edit, editsFrom}
-use Rattle.map_file.specs.Run.{edited, freshMap, editAnswers, editNumbers, fileWithdraws, fileNumbers}
+use Rattle.map_format.specs.Format.{editsAt, editBytes, fileWithdraws, Edit, editsFrom}
+use Rattle.map_file.specs.Run.{edited, freshMap, editAnswers, editNumbers, fileNumbers}
 use Rattle.report_text.specs.Text.{editWord, newline, decimal, numberText, bitsText, refusedText}
 use Rattle.report_lines.specs.Lines.{editLine, editLines, countsLine, openLine, openLines, midText, midLine}
 

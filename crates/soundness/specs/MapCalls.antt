@@ -1,4 +1,4 @@
--- A list of calls on one map: insertions, evaluations and questions of cells, buildings of the knots, the calls on its store that only look at it (the knots of one
+-- A list of calls on one map: insertions by either rule on torn ones, evaluations and questions of cells, buildings of the knots, the calls on its store that only look at it (the knots of one
 -- point, a ray), and the direct calls on that store, a point made alone among them; in any order, with any arguments, whatever they answer. A
 -- direct call leaves the listing, the positions, the kept knots and their index as they are. Lending a map is none of them: it leaves the map that an
 -- evaluation leaves (the theorem `LendingIsSubs` of lent_surface).
@@ -19,7 +19,7 @@ use Rattle.t_mesh.specs.declared.t_mesh.Tmesh.{Tmesh}
 use Rattle.knot_vectors.specs.Knots.{generateKnotVectors}
 use Rattle.cells.specs.Cells.{cellTold}
 use Rattle.surface.specs.Evaluation.{evaluationTold}
-use Rattle.calls.specs.Calls.{Call, Answer, inserted, evaluated, questioned, withdraws, answerTo, mapAfter}
+use Rattle.calls.specs.Calls.{Call, Answer, inserted, evaluated, questioned, callWithdraws, answerTo, mapAfter}
 
 -- an insertion, an evaluation or a question; the building of all knots; the knots of a point; a ray from a point into a buffer; a direct call
 pub data MapCall : Type 0 where
@@ -29,13 +29,13 @@ pub data MapCall : Type 0 where
   cast-ray : ℕ → TmeshDirection → List Float → MapCall
   direct : Direct → MapCall
 
--- whether a call withdraws a torn insertion
-abbrev pub callWithdraws : MapCall → Bool
-callWithdraws (entry call) = withdraws call
-callWithdraws generate-knot-vectors = false
-callWithdraws (point-knot-vectors n) = false
-callWithdraws (cast-ray n d buffer) = false
-callWithdraws (direct call) = false
+-- whether a call withdraws a torn insertion; none but an insertion does
+abbrev pub mapCallWithdraws : MapCall → Bool
+mapCallWithdraws (entry call) = callWithdraws call
+mapCallWithdraws generate-knot-vectors = false
+mapCallWithdraws (point-knot-vectors n) = false
+mapCallWithdraws (cast-ray n d buffer) = false
+mapCallWithdraws (direct call) = false
 
 -- the map after a call, with closeness e
 abbrev pub afterCall : Float → Tmesh → MapCall → Tmesh

@@ -40,7 +40,7 @@ use Rattle.surface.specs.declared.evaluation.EvaluationAnswer.the-variants.{Ref
 use Rattle.cells.specs.Cells.{cellPoints}
 use Rattle.cells.specs.declared.CellAnswer.the-variants.{Refused as NoWords}
 use Rattle.census.specs.Census.{sidesThat, countsOf}
-use Rattle.soundness.specs.MapCalls.{MapCall, generate-knot-vectors, direct, callWithdraws, afterCall, mapAfterAll, directs, addsPoint, numberTo, pointsMade}
+use Rattle.soundness.specs.MapCalls.{MapCall, generate-knot-vectors, direct, mapCallWithdraws, afterCall, mapAfterAll, directs, addsPoint, numberTo, pointsMade}
 
 -- ---- the maps
 -- what holds of the map after every list of calls on every fresh one
@@ -83,7 +83,7 @@ ListingGrows =
 -- On every map: a call that is refused leaves the map as it was, the kept knots and their index too; one that is torn, 8, does so where it withdraws torn insertions.
 abbrev pub RefusedKeepsMap : Type 0
 RefusedKeepsMap =
-    (e : Float) (map : Tmesh) (call : MapCall) → (numberTo e map call ≡ 0 → ⊥) → (numberTo e map call ≡ 8 → callWithdraws call ≡ true) → afterCall e map call ≡ map
+    (e : Float) (map : Tmesh) (call : MapCall) → (numberTo e map call ≡ 0 → ⊥) → (numberTo e map call ≡ 8 → mapCallWithdraws call ≡ true) → afterCall e map call ≡ map
 
 -- ---- the kept knots and their index
 -- On every map: only an insertion done drops the kept knots and their index. Every other call, refused or not, leaves both kept, and they are

@@ -2,7 +2,7 @@
 -- knots and their index are kept. Done, p is listed and both are dropped. So it is in the source (`add_control_point`). By the rule that withdraws torn
 -- insertions (`add_or_withdraw`) a torn one leaves the map as it was: the sides, the coordinates, the positions, the listing, the kept knots and their index.
 use Prim.Native.Nat.{ℕ}
-use mathlib.Core.Bool.{Bool, true, false, cond}
+use mathlib.Core.Bool.{Bool, false, cond}
 use lib.Ieee.{Float}
 use lib.ListN.{set}
 use Rattle.control_point.specs.declared.t_mesh_direction.TmeshDirection.{TmeshDirection}
@@ -61,9 +61,11 @@ unfoldable pub addControlPoint : Float → Tmesh → ℕ → TmeshDirection → 
 addControlPoint e map con d ratio position = answered map position (insertPoint e (storeOf map) (isListed map con) con d ratio)
 
 -- ---- by either rule on torn ones
+-- of the map before an insertion and what it answered, withdrawn or not
 abbrev pub addedBy : Bool → Tmesh → Added → Added
 addedBy withdraws map added = record { answer = added .answer; map = unlessWithdrawn withdraws (added .answer) map (added .map) }
 
+-- where torn insertions are not withdrawn, it is `addControlPoint` (`added-staying`)
 abbrev pub addByRule : Bool → Float → Tmesh → ℕ → TmeshDirection → Float → Position → Added
 addByRule withdraws e map con d ratio position = addedBy withdraws map (addControlPoint e map con d ratio position)
 

@@ -16,7 +16,7 @@ use Rattle.insertion.specs.declared.insertion.InsertAnswer.{InsertAnswer}
 use Rattle.insertion.specs.declared.insertion.Inserted.{Inserted}
 use Rattle.lent_points.specs.LentLaws.{true-false}
 use Rattle.store.specs.declared.store.Store.{Store}
-use Rattle.t_mesh.specs.Insertion.{withPlaced, answeredMesh, insertIntoMesh, keptAfter, addControlPoint, addedBy}
+use Rattle.t_mesh.specs.Insertion.{withPlaced, answeredMesh, insertIntoMesh, keptAfter, addControlPoint, addedBy, addByRule}
 use Rattle.t_mesh.specs.Tmesh.{storeOf, isListed}
 use Rattle.t_mesh.specs.declared.add.Added.{Added}
 use Rattle.t_mesh.specs.declared.add.InsertedMesh.{InsertedMesh}
@@ -56,7 +56,13 @@ pub added-by-mesh : (e : Float) (map : Tmesh) (con : ℕ) (d : TmeshDirection) (
 unfolding insertIntoMesh addControlPoint
 added-by-mesh e map con d ratio position = refl
 
--- ---- by the rule that withdraws torn ones: torn, the map is the one before it, else the one after it
+-- ---- by either rule on torn ones
+-- where they stay, it is the source's
+pub added-staying : (e : Float) (map : Tmesh) (con : ℕ) (d : TmeshDirection) (ratio : Float) (position : Position)
+    → addByRule false e map con d ratio position ≡ addControlPoint e map con d ratio position
+added-staying e map con d ratio position = refl
+
+-- where they are withdrawn: torn, the map is the one before it, else the one after it
 module _ (map : Tmesh) (added result : Added) (is : result ≡ added) where
   pub added-withdrawn : isTorn (result .answer) ≡ true → record { answer = result .answer; map = map } ≡ addedBy true map added
   added-withdrawn torn =

@@ -61,8 +61,8 @@ position-at-requires-4 c κs = search needs
 lend-corners-requires : tie.Need-lend-corners-requires Inv-loop μ-loop
 lend-corners-requires c κs = search needs
 
-withdraws-torn-requires : tie.Need-withdraws-torn-requires Inv-loop μ-loop
-withdraws-torn-requires c κs = search needs
+file-withdraws-requires : tie.Need-file-withdraws-requires Inv-loop μ-loop
+file-withdraws-requires c κs = search needs
 
 loop-holds : tie.Need-loop-holds Inv-loop μ-loop
 loop-holds c =
@@ -110,7 +110,7 @@ loop-again c =
       omega (arith, t .loop-test .taken),
       ap length noted ∙ length-set (l .notes) (l .n) _ ∙ l .inv .1,
       x .run-edit .ensures .1 .1,
-      running-next _ _ _ _ _ _ _ _ (l .inv .3) (t .loop-test .taken) _ (c .next-place .ensures) _ (t .before .before .withdraws-torn .ensures) _ (x .run-edit .ensures .0) _ (x .run-edit .ensures .1 .0) _ noted,
+      running-next _ _ _ _ _ _ _ _ (l .inv .3) (t .loop-test .taken) _ (c .next-place .ensures) _ (t .before .before .file-withdraws .ensures) _ (x .run-edit .ensures .0) _ (x .run-edit .ensures .1 .0) _ noted,
     )
 
 same-length : tie.Need-same-length Inv-loop μ-loop
@@ -139,7 +139,7 @@ run-lent-spec =
     add-position-at-3
     position-at-requires-4
     lend-corners-requires
-    withdraws-torn-requires
+    file-withdraws-requires
     loop-holds
     run-edit-requires
     number-requires

@@ -1,7 +1,7 @@
 -- `run_edit` meets its contract: an insertion into the lent points is one into the mesh that they hold, by either rule, and what is stored after it is what that mesh has after it.
 use Prim.Native.Nat.{_<_}
 use mathlib.Core.Path.{_≡_, ap, _∙_, sym, subst}
-use mathlib.Core.Bool.{Bool, true, false}
+use mathlib.Core.Bool.{Bool, true}
 use native.Mathlib.Omega.{arith}
 use borrow.Author.Needs.{needs}
 use borrow.Author.Tests.{not-true, not-false}
@@ -71,7 +71,7 @@ leaves-point-requires c κs = search needs
 returns : tie.Need-returns
 returns c =
     let x = c .before .before in
-    (inserts x .answered, (inserts x .kept (sym (c .before .leaves-point .ensures) ∙ not-true _ (c .if1 .taken)), (x .insert-by-rule .ensures .0, begun x .pre .1)))
+    (inserts x .answered, (inserts x .unplaced (sym (c .before .leaves-point .ensures) ∙ not-true _ (c .if1 .taken)), (x .insert-by-rule .ensures .0, begun x .pre .1)))
 
 edit-position-requires : tie.Need-edit-position-requires
 edit-position-requires c κs = search needs
