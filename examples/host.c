@@ -31,7 +31,7 @@ static const char *words(uint64_t answer)
     case GATEMAP_BORDER: return "the evaluation met a border";
     case GATEMAP_RING: return "the evaluation went round in a ring";
     case GATEMAP_LENGTH: return "the file's length is wrong";
-    case GATEMAP_VERSION: return "the file's version is not 1";
+    case GATEMAP_VERSION: return "the file's version is neither 1 nor 2";
     case GATEMAP_HEADING: return "an edit's direction is above 3";
     case GATEMAP_NO_WEIGHT: return "the map has no weight there";
     case GATEMAP_SHORT: return "the buffer is too short";

@@ -18,7 +18,7 @@
 
 #define TWO_OPENINGS "openings: the first two"
 
-enum { MOST_PARTS = 1000, MOST_CASES = 100000, NAME_BYTES = 64, BASIS_BYTES = 56, OPENING_BYTES = 2, SIDES = 4 };
+enum { MOST_PARTS = 1000, MOST_CASES = 100000, NAME_BYTES = 64, BASIS_BYTES = 56, OPENING_BYTES = 2, SIDES = 4, TORN = 8, VERSION_AT = 4 };
 
 /* ---- what is read */
 static const char *program, *folder;
@@ -176,19 +176,24 @@ static void flag(const char *what)
     answer(1, "%s: %zu", what, set);
 }
 
+/* An insertion, and how many points it leaves. */
+static size_t insertion(const char *call, int withdraws)
+{
+    skip(34);
+    size_t answered = number(call);
+    if (answered != 0 && answered != TORN)
+        return 0;
+    answer(1, "%s %zu: opened", call, answered);
+    answer(1, "%s %zu: inferred", call, answered);
+    return answered == 0 || !withdraws;
+}
+
 static void map_call(size_t *made)
 {
     size_t kind = byte();
-    size_t answered;
     switch (kind) {
     case 0:
-        skip(34);
-        answered = number("insertion");
-        if (answered == 0 || answered == 8) {
-            answer(1, "insertion %zu: opened", answered);
-            answer(1, "insertion %zu: inferred", answered);
-            ++*made;
-        }
+        *made += insertion("insertion", 0);
         break;
     case 1: {
         skip(2);
@@ -248,6 +253,9 @@ static void map_call(size_t *made)
         answer(2, "counts: links");
         answer(2, "counts: borders");
         break;
+    case 10:
+        *made += insertion("withdrawing insertion", 1);
+        break;
     default: {
         if (kind < 16)
             fail("case %zu has a call of kind %zu", case_count, kind);
@@ -306,7 +314,7 @@ static void read_map(void)
 }
 
 /* A line of a report, named by its words: `edit K refused N` and the like. */
-static void line(const uint8_t *text, size_t bytes)
+static void line(const char *report, const uint8_t *text, size_t bytes)
 {
     char copy[NAME_BYTES];
     size_t length = bytes < sizeof copy ? bytes : sizeof copy - 1;
@@ -317,9 +325,9 @@ static void line(const uint8_t *text, size_t bytes)
     const char *refused = strstr(copy, "refused");
     int refusal = 0;
     if (refused && sscanf(refused, "refused %d", &refusal) == 1)
-        answer(bytes, "report: %s refused %d", first, refusal);
+        answer(bytes, "%s: %s refused %d", report, first, refusal);
     else
-        answer(bytes, "report: %s", first);
+        answer(bytes, "%s: %s", report, first);
 }
 
 /* A list of C calls: how many bytes the arguments and the buffer's length take, and how many are stored of the buffer. */
@@ -339,7 +347,9 @@ static void read_file(void)
     answer(2, "length");
     answer(2, "length of the file");
     now -= 2;
-    skip(pair());
+    size_t file_length = pair();
+    const uint8_t *file = here(file_length);
+    const char *report = file_length > VERSION_AT && file[VERSION_AT] == 2 ? "report of version 2" : "report";
     answer(2, "length of the text");
     now -= 2;
     size_t length = pair();
@@ -348,7 +358,7 @@ static void read_file(void)
     for (size_t at = 0; at < length;) {
         const uint8_t *end = memchr(text + at, '\n', length - at);
         size_t bytes = end ? (size_t)(end - text) + 1 - at : length - at;
-        line(text + at, bytes);
+        line(report, text + at, bytes);
         at += bytes;
     }
     host_calls("C set-point", 17, 32);
@@ -370,7 +380,11 @@ static const char *const store_parts[] = {
 static const char *const map_parts[] = {
     "insertion 0: number", "insertion 0: opened", "insertion 0: inferred", "insertion 1: number", "insertion 2: number",
     "insertion 3: number", "insertion 4: number", "insertion 6: number", "insertion 8: number", "insertion 8: opened",
-    "insertion 8: inferred", "insertion 10: number", "ray 0: number", "ray 3: number", "ray 4: number", "ray 9: number", "ray 11: number",
+    "insertion 8: inferred", "insertion 10: number", "withdrawing insertion 0: number", "withdrawing insertion 0: opened",
+    "withdrawing insertion 0: inferred", "withdrawing insertion 1: number", "withdrawing insertion 2: number",
+    "withdrawing insertion 3: number", "withdrawing insertion 4: number", "withdrawing insertion 6: number",
+    "withdrawing insertion 8: number", "withdrawing insertion 8: opened", "withdrawing insertion 8: inferred",
+    "withdrawing insertion 10: number", "ray 0: number", "ray 3: number", "ray 4: number", "ray 9: number", "ray 11: number",
     "ray: entry 1", "ray: entry 5", "knots 0: number", "knots 3: number", "knots 4: number", "knots 9: number", "knots 11: number",
     "knots: s1", "knots: s5", "knots: t1", "knots: t5", "evaluation 0: number", "evaluation 3: number", "evaluation 4: number",
     "evaluation 9: number", "evaluation: x", "evaluation: y", "evaluation: z", "evaluation: weight", "all knots 0: number",
@@ -389,6 +403,11 @@ static const char *const file_parts[] = {
     "report: edit refused 1", "report: edit refused 2", "report: edit refused 3", "report: edit refused 4", "report: edit refused 8",
     "report: edit refused 10", "report: made", "report: open", "report: mid", "report: mid refused 3", "report: mid refused 4",
     "report: mid refused 9", "report: mid refused 15", "report: file refused 12", "report: file refused 13", "report: file refused 14",
+    "report of version 2: edit refused 1", "report of version 2: edit refused 2", "report of version 2: edit refused 3",
+    "report of version 2: edit refused 4", "report of version 2: edit refused 8", "report of version 2: edit refused 10",
+    "report of version 2: made", "report of version 2: open", "report of version 2: mid", "report of version 2: mid refused 3",
+    "report of version 2: mid refused 4", "report of version 2: mid refused 9", "report of version 2: mid refused 15",
+    "report of version 2: file refused 12", "report of version 2: file refused 14",
     "C set-point 0: number", "C set-point 0: buffer", "C set-point 3: number", "C set-point 4: number", "C set-point 9: number", "C set-point 12: number",
     "C set-point 13: number", "C set-point 14: number", "C set-point 15: number", "C set-point 15: buffer", "C set-point 16: number", "C set-point 16: buffer",
     "C set-point: how many", "C cell 0: number", "C cell 0: buffer", "C cell 3: number", "C cell 4: number", "C cell 9: number",

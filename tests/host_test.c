@@ -1,9 +1,9 @@
 /*
  * host_test CASES [PROGRAM]: tries the C calls, and with PROGRAM the program `gatemap` too, and says in one line how it went.
  *
- * The files are document 01's sample, every prefix and every change of one byte of it; samples of 0, 1, 2, 999, 1,000 and 1,001 edits, also with
- * count or length one off; maps with a line of 124 points on the lower edge; and those of CASES, which is crates/file_replay/data/cases
- * (oracle/README.md has its format).
+ * The files are document 01's sample in each version, every prefix and every change of one byte of it; samples of 0, 1, 2, 999, 1,000 and 1,001 edits,
+ * also with count or length one off; two edits of which the first is torn; maps with a line of 124 points on the lower edge, in version 2 among 868
+ * withdrawn edits; and those of CASES, which is crates/file_replay/data/cases (oracle/README.md has its format).
  * Every call is made twice, with file and buffer right before memory that cannot be touched and right after such memory, so that one
  * byte read or written too far ends the test; what of the buffer's page is not to be written is looked at after each call.
  * A cell's words are held against the stored ones or, of a file made here, against those that the outer knots of its points give; the knots are
@@ -52,6 +52,9 @@ enum {
     FRAMES_BYTES = 1 << 18,
     FILLER = 0xa5
 };
+
+/* The versions of a file: a torn edit stays, or it is withdrawn. */
+enum { STAYS = 1, WITHDRAWS = 2 };
 
 static const uint64_t HALF = 0x3fe0000000000000;
 static const uint64_t ONE = 0x3ff0000000000000;
@@ -178,7 +181,7 @@ static uint64_t refusal_of(const uint8_t *bytes, size_t length, struct question 
     size_t count = (size_t)bytes[0] << 24 | (size_t)bytes[1] << 16 | (size_t)bytes[2] << 8 | bytes[3];
     if (count != length - COUNT_BYTES)
         return GATEMAP_LENGTH;
-    if (bytes[VERSION_AT] != 1)
+    if (bytes[VERSION_AT] != STAYS && bytes[VERSION_AT] != WITHDRAWS)
         return GATEMAP_VERSION;
     for (size_t at = EDITS_AT; at < length; at += EDIT_BYTES)
         if (bytes[at + 1] > 3)
@@ -308,12 +311,12 @@ static size_t put_last_line(char *line, struct answer answer)
 
 /* ---- files made here */
 
-/* The head of a file with so many edits: the square map with a border weight. */
-static uint8_t *put_head(uint8_t *file, uint64_t border, size_t edits)
+/* The head of a file of a version with so many edits: the square map with a border weight. */
+static uint8_t *put_head(uint8_t *file, int version, uint64_t border, size_t edits)
 {
     static const int corners[12] = {0, 0, 0, 1, 0, 0, 1, 1, 1, 0, 1, 1};
     uint8_t *at = put_number(file, 105 + EDIT_BYTES * edits, COUNT_BYTES);
-    at = put_number(put_number(at, 1, 1), border, 8);
+    at = put_number(put_number(at, (uint64_t)version, 1), border, 8);
     for (int i = 0; i < 12; i++)
         at = put_number(at, corners[i] ? ONE : 0, 8);
     return at;
@@ -328,10 +331,10 @@ static uint8_t *put_edit(uint8_t *at, int point, uint64_t ratio)
     return at;
 }
 
-/* The square map with border 1.0 and so many edits of ratio 2.0, which are all refused. The one with one edit is document 01's. */
-static size_t sample(uint8_t *file, size_t edits)
+/* The square map with border 1.0 and so many edits of ratio 2.0, which are all refused. The one of version 1 with one edit is document 01's. */
+static size_t sample(uint8_t *file, int version, size_t edits)
 {
-    uint8_t *at = put_head(file, ONE, edits);
+    uint8_t *at = put_head(file, version, ONE, edits);
     for (size_t k = 0; k < edits; k++)
         at = put_edit(at, 0, TWO);
     return (size_t)(at - file);
@@ -341,8 +344,26 @@ static const uint8_t SAMPLE_VALUE[GATEMAP_VALUE_BYTES] = {0x3f, 0xe0, 0, 0, 0, 0
                                                           0x3f, 0xe0, 0, 0, 0, 0, 0, 0, 0x3f, 0xec, 0x20, 0, 0, 0, 0, 0};
 
 /*
+ * The square map with border 1.0 and two edits to the right of corner 0, at ratio 0.0 and at 0.5. The first is torn. Where it stays, the second parts
+ * the interval of 0.0 to its point, and is torn as well. Where it is withdrawn, the second is done and has its number.
+ */
+static size_t torn_sample(uint8_t *file, int version)
+{
+    uint8_t *at = put_edit(put_edit(put_head(file, version, ONE, 2), 0, 0), 0, HALF);
+    return (size_t)(at - file);
+}
+
+/* What stands before the last line of its report. */
+static const char *torn_lines(int version)
+{
+    return version == STAYS ? "edit 1 refused 8\nedit 2 refused 8\nmade 6 listed 4 links 6\nopen 4 0\nopen 5 0\n"
+                            : "edit 1 refused 8\nmade 5 listed 5 links 5\nopen 4 0\n";
+}
+
+/*
  * What stands before the last line of a report, for a sample with at most one byte changed. The ratios decide: one outside 0 to 1 is refused;
- * any other makes point 4, open above, between corners 0 and 1, and is torn within a millionth of corner 0, which has the link to corner 3.
+ * any other makes point 4, open above, between corners 0 and 1, and is torn within a millionth of corner 0, which has the link to corner 3. Withdrawn,
+ * it makes none.
  */
 static size_t put_first_lines(char *text, const uint8_t *bytes, size_t length)
 {
@@ -353,19 +374,16 @@ static size_t put_first_lines(char *text, const uint8_t *bytes, size_t length)
         int refused = !(0 <= ratio && ratio <= 1), torn = !refused && ratio <= MILLIONTH;
         if (refused || torn)
             end += (size_t)snprintf(text + end, MOST_LINE_BYTES, "edit %zu refused %d\n", edit, torn ? GATEMAP_TORN : GATEMAP_RATIO);
-        if (!refused)
+        if (!refused && !(torn && bytes[VERSION_AT] == WITHDRAWS))
             rest = torn ? "made 5 listed 4 links 5\nopen 4 0\n" : "made 5 listed 5 links 5\nopen 4 0\n";
     }
     return end + (size_t)snprintf(text + end, MOST_LINE_BYTES, "%s", rest);
 }
 
-/* The set-point at (0.5, 0.5), which the program's report must have too. */
-static struct answer in_the_middle(const uint8_t *bytes, size_t length)
+/* The set-point at (0.5, 0.5), which the program's report must have too, behind the lines that the text has so far. */
+static struct answer in_the_middle(const uint8_t *bytes, size_t length, char *text, size_t end)
 {
-    static char text[MOST_CASE_BYTES];
-    struct question middle = at_place(HALF, HALF);
-    struct answer answer = call(bytes, length, middle, GATEMAP_VALUE_BYTES);
-    size_t end = refusal_of(bytes, length, middle, GATEMAP_VALUE_BYTES) == GATEMAP_DONE ? put_first_lines(text, bytes, length) : 0;
+    struct answer answer = call(bytes, length, at_place(HALF, HALF), GATEMAP_VALUE_BYTES);
     end += put_last_line(text + end, answer);
     check(prints(bytes, length, text, end), "the program prints of %zu bytes something other than\n%.*s", length, (int)end, text);
     return answer;
@@ -452,13 +470,17 @@ static uint64_t next_cell(const uint8_t *bytes, size_t length)
     return ask_cell(bytes, length, outer, valid ? sample_outer(bytes, length, outer) : 0, cell);
 }
 
+/* How many edits of ratio 0.0 stand in version 2 before each edit of the line. They are torn at corner 0, whatever stands on its right. */
+enum { TORN_BEFORE = 7 };
+
 /*
  * A map of 128 points: 124 edits halve the lower edge again and again, from left to right, and all sums are exact. A point of the edge has for its
  * outer knots across the second points to its left and right, or else the border's; upwards it has the border's, as the other two corners have.
  */
-static size_t line_of_points(uint8_t *file, double border, struct outer *outer)
+static size_t line_of_points(uint8_t *file, int version, double border, struct outer *outer)
 {
-    uint8_t *at = put_head(file, bits_of(border), MOST_POINTS - CORNERS);
+    int torn_before = version == WITHDRAWS ? TORN_BEFORE : 0;
+    uint8_t *at = put_head(file, version, bits_of(border), (size_t)((MOST_POINTS - CORNERS) * (torn_before + 1)));
     int line[MOST_POINTS] = {0, 1}, on_line = 2;
     double across[MOST_POINTS] = {0, 1};
     for (int made = CORNERS; made < MOST_POINTS;) {
@@ -468,6 +490,8 @@ static size_t line_of_points(uint8_t *file, double border, struct outer *outer)
         for (int i = 0; i <= last; i++) {
             line[on_line++] = before[i];
             if (i < last && made < MOST_POINTS) {
+                for (int torn = 0; torn < torn_before; torn++)
+                    at = put_edit(at, 0, 0);
                 at = put_edit(at, before[i], HALF);
                 across[made] = (across[before[i]] + across[before[i + 1]]) / 2;
                 line[on_line++] = made++;
@@ -492,7 +516,9 @@ typedef uint64_t trial(const uint8_t *bytes, size_t length);
 
 static uint64_t middle(const uint8_t *bytes, size_t length)
 {
-    return in_the_middle(bytes, length).number;
+    static char text[MOST_CASE_BYTES];
+    int valid = refusal_of(bytes, length, at_place(HALF, HALF), GATEMAP_VALUE_BYTES) == GATEMAP_DONE;
+    return in_the_middle(bytes, length, text, valid ? put_first_lines(text, bytes, length) : 0).number;
 }
 
 static uint8_t file[MOST_CASE_BYTES];
@@ -502,16 +528,16 @@ static void refused_for_length(trial *number_of, size_t length, const char *word
     check(number_of(file, length) == GATEMAP_LENGTH, "%zu bytes: %s", length, words);
 }
 
-static void every_prefix(trial *number_of)
+static void every_prefix(trial *number_of, int version)
 {
-    size_t length = sample(file, 1);
+    size_t length = sample(file, version, 1);
     for (size_t prefix = 0; prefix < length; prefix++)
         refused_for_length(number_of, prefix, "a prefix");
 }
 
-static void every_change_of_a_byte(trial *number_of)
+static void every_change_of_a_byte(trial *number_of, int version)
 {
-    size_t length = sample(file, 1);
+    size_t length = sample(file, version, 1);
     for (size_t at = 0; at < length; at++) {
         uint8_t kept = file[at];
         for (int change = 1; change < 256; change++) {
@@ -528,11 +554,11 @@ static const size_t EDITS[] = {0, 1, 2, MOST_EDITS - 1, MOST_EDITS, MOST_EDITS +
 
 enum { EDITS_TRIED = sizeof EDITS / sizeof EDITS[0] };
 
-static void counts_one_off(trial *number_of)
+static void counts_one_off(trial *number_of, int version)
 {
     for (int i = 0; i < EDITS_TRIED; i++)
         for (int off = -1; off <= 1; off += 2) {
-            size_t length = sample(file, EDITS[i]);
+            size_t length = sample(file, version, EDITS[i]);
             refused_for_length(number_of, length + (size_t)off, "a length that is one off");
             put_number(file, length - COUNT_BYTES + (uint64_t)off, COUNT_BYTES);
             refused_for_length(number_of, length, "a count that is one off");
@@ -540,23 +566,32 @@ static void counts_one_off(trial *number_of)
         }
 }
 
-static void counts_of_edits(trial *number_of)
+static void counts_of_edits(trial *number_of, int version)
 {
     for (int i = 0; i < EDITS_TRIED; i++)
-        check(number_of(file, sample(file, EDITS[i])) == (EDITS[i] <= MOST_EDITS ? GATEMAP_DONE : GATEMAP_LENGTH), "%zu edits", EDITS[i]);
+        check(number_of(file, sample(file, version, EDITS[i])) == (EDITS[i] <= MOST_EDITS ? GATEMAP_DONE : GATEMAP_LENGTH), "%zu edits",
+              EDITS[i]);
+}
+
+/* The versions before and after those that there are, and the last. */
+static void other_versions(trial *number_of)
+{
+    static const int others[] = {STAYS - 1, WITHDRAWS + 1, UINT8_MAX};
+    for (size_t i = 0; i < sizeof others / sizeof others[0]; i++)
+        check(number_of(file, sample(file, others[i], 1)) == GATEMAP_VERSION, "version %d", others[i]);
 }
 
 /* A buffer of every length: where there is room, what is written is what the longest gets. */
-static void every_room(struct question question)
+static void every_room(struct question question, int version)
 {
-    struct answer longest = call(file, sample(file, 1), question, MOST_ROOM);
+    struct answer longest = call(file, sample(file, version, 1), question, MOST_ROOM);
     for (size_t room = 0; room <= MOST_ROOM; room++) {
-        size_t length = sample(file, 1);
+        size_t length = sample(file, version, 1);
         struct answer answer = call(file, length, question, room);
         check(answer.number == (room < answer_bytes(question) ? GATEMAP_SHORT : GATEMAP_DONE), "a buffer of %zu", room);
         check(answer.number != GATEMAP_DONE || memcmp(answer.bytes, longest.bytes, answer_bytes(question)) == 0,
               "what is written to a buffer of %zu", room);
-        file[VERSION_AT] = 2;
+        file[VERSION_AT] = WITHDRAWS + 1;
         call(file, length, question, room);
         call(file, 3, question, room);
     }
@@ -564,29 +599,59 @@ static void every_room(struct question question)
 
 static void files_made_here(trial *number_of, struct question question)
 {
-    every_prefix(number_of);
-    every_change_of_a_byte(number_of);
-    counts_one_off(number_of);
-    counts_of_edits(number_of);
-    every_room(question);
+    for (int version = STAYS; version <= WITHDRAWS; version++) {
+        every_prefix(number_of, version);
+        every_change_of_a_byte(number_of, version);
+        counts_one_off(number_of, version);
+        counts_of_edits(number_of, version);
+        every_room(question, version);
+    }
+    other_versions(number_of);
 }
 
-static void sample_values(void)
+static void sample_values(int version)
 {
     for (int i = 0; i < EDITS_TRIED && EDITS[i] <= MOST_EDITS; i++) {
-        struct answer answer = call(file, sample(file, EDITS[i]), at_place(HALF, HALF), GATEMAP_VALUE_BYTES);
+        struct answer answer = call(file, sample(file, version, EDITS[i]), at_place(HALF, HALF), GATEMAP_VALUE_BYTES);
         check(answer.number == GATEMAP_DONE && memcmp(answer.bytes, SAMPLE_VALUE, sizeof SAMPLE_VALUE) == 0,
               "the value after %zu refused edits", EDITS[i]);
     }
 }
 
-static void sample_cells(void)
+/* After a withdrawn edit the value is that of the file without it; after a torn one that stays it is another. */
+static void torn_value(int version)
+{
+    static char text[MOST_CASE_BYTES];
+    size_t end = (size_t)snprintf(text, sizeof text, "%s", torn_lines(version));
+    struct answer torn = in_the_middle(file, torn_sample(file, version), text, end);
+    size_t without = (size_t)(put_edit(put_head(file, version, ONE, 1), 0, HALF) - file);
+    struct answer answer = call(file, without, at_place(HALF, HALF), GATEMAP_VALUE_BYTES);
+    check(torn.number == GATEMAP_DONE && answer.number == GATEMAP_DONE, "a torn edit, version %d", version);
+    check((memcmp(torn.bytes, answer.bytes, sizeof answer.bytes) == 0) == (version == WITHDRAWS), "the value after a torn edit, version %d",
+          version);
+}
+
+static void sample_cells(int version)
 {
     static struct outer outer[MOST_POINTS];
     for (int i = 0; i < EDITS_TRIED && EDITS[i] <= MOST_EDITS; i++) {
-        size_t length = sample(file, EDITS[i]);
+        size_t length = sample(file, version, EDITS[i]);
         every_cell(file, length, outer, sample_outer(file, length, outer));
     }
+}
+
+/*
+ * Where torn points stay, the last knot of corner 0 across is their 0.0. Corner 1 starts at 0.0, and where the first is withdrawn corner 0 ends at 1.0:
+ * these reach every cell, as with the -1 and the 2 that are given here.
+ */
+static void torn_cells(int version)
+{
+    struct outer outer[CORNERS + 1];
+    for (int n = 0; n <= CORNERS; n++)
+        outer[n] = of_border(1);
+    if (version == STAYS)
+        outer[0].s.last = 0;
+    every_cell(file, torn_sample(file, version), outer, version == STAYS ? CORNERS : CORNERS + 1);
 }
 
 /*
@@ -598,11 +663,11 @@ static const double BORDERS[] = {1, 0, -0x1p-4, -0x1.fffffffffffffp-5, -0x1.0000
 
 enum { BORDERS_TRIED = sizeof BORDERS / sizeof BORDERS[0] };
 
-static void line_cells(void)
+static void line_cells(int version)
 {
     static struct outer outer[MOST_POINTS];
     for (int i = 0; i < BORDERS_TRIED; i++) {
-        size_t length = line_of_points(file, BORDERS[i], outer);
+        size_t length = line_of_points(file, version, BORDERS[i], outer);
         every_cell(file, length, outer, MOST_POINTS);
     }
 }
@@ -618,10 +683,10 @@ struct stored {
 enum { STORED_SET_POINT_BYTES = 18 + GATEMAP_VALUE_BYTES, STORED_CELL_BYTES = 3 + GATEMAP_CELL_BYTES };
 
 /*
- * The counts of a report by the answers of its edits, as far as it shows them: an edit without a line is done, 8 is torn. Each done or torn edit
- * makes a point and a link, opens at most two sides, and each link that it infers takes two of them away again.
+ * The counts of a report by the answers of its edits, as far as it shows them: an edit without a line is done, 8 is torn. Each done edit, and each torn
+ * one that stays, makes a point and a link, opens at most two sides, and each link that it infers takes two of them away again.
  */
-static void report_counts(const char *text, size_t length, size_t edits)
+static void report_counts(const char *text, size_t length, size_t edits, int version)
 {
     static char copy[MOST_CASE_BYTES];
     long done = (long)edits, torn = 0, openings = 0, made = 0, listed = 0, links = 0;
@@ -631,7 +696,7 @@ static void report_counts(const char *text, size_t length, size_t edits)
         int number = 0;
         if (sscanf(line, "edit %*d refused %d", &number) == 1) {
             done--;
-            torn += number == GATEMAP_TORN;
+            torn += number == GATEMAP_TORN && version == STAYS;
         }
         sscanf(line, "made %ld listed %ld links %ld", &made, &listed, &links);
         openings += *line == 'o';
@@ -651,7 +716,7 @@ static void stored_report(const struct stored *stored)
           "the last line of stored file %lu is not %s", files, line);
     check(prints(stored->bytes, stored->length, text, stored->text_length), "the text of stored file %lu", files);
     if (*text != 'f')
-        report_counts(text, stored->text_length, (stored->length - EDITS_AT) / EDIT_BYTES);
+        report_counts(text, stored->text_length, (stored->length - EDITS_AT) / EDIT_BYTES, stored->bytes[VERSION_AT]);
 }
 
 /* A call on a stored file: its answer's number and what it writes are stored. */
@@ -728,11 +793,11 @@ static double below(double number)
 }
 
 /* At the first and at the last place of every cell. */
-static void line_agrees(void)
+static void line_agrees(int version)
 {
     static struct outer outer[MOST_POINTS];
     for (int i = 0; i < BORDERS_TRIED; i++) {
-        size_t length = line_of_points(file, BORDERS[i], outer);
+        size_t length = line_of_points(file, version, BORDERS[i], outer);
         for (int row = 0; row < LINES; row++)
             for (int column = 0; column < LINES; column++) {
                 agree(file, length, column / (double)LINES, row / (double)LINES);
@@ -754,7 +819,10 @@ static void stored_agrees(const struct stored *stored)
 static void *set_points(void *cases)
 {
     files_made_here(middle, at_place(HALF, HALF));
-    sample_values();
+    for (int version = STAYS; version <= WITHDRAWS; version++) {
+        sample_values(version);
+        torn_value(version);
+    }
     stored_files(cases, stored_set_points);
     return NULL;
 }
@@ -762,15 +830,19 @@ static void *set_points(void *cases)
 static void *cells(void *cases)
 {
     files_made_here(next_cell, at_cell(0));
-    sample_cells();
-    line_cells();
+    for (int version = STAYS; version <= WITHDRAWS; version++) {
+        sample_cells(version);
+        torn_cells(version);
+        line_cells(version);
+    }
     stored_files(cases, stored_cells);
     return NULL;
 }
 
 static void *both_at_a_place(void *cases)
 {
-    line_agrees();
+    for (int version = STAYS; version <= WITHDRAWS; version++)
+        line_agrees(version);
     stored_files(cases, stored_agrees);
     return NULL;
 }
