@@ -5,7 +5,9 @@
  * position and the total weight at (s, t); gatemap_cell says which points reach
  * a cell of the map. Where there is no answer, they say why by a number. Each is
  * proved to do so for every file, every place or cell and every buffer
- * (crates/gatemap_host); docs/FORMATS.md has the format of a map file.
+ * (crates/gatemap_host); docs/FORMATS.md has the format of a map file. There are
+ * two versions of it, with one layout: in version 1 a torn edit stays, and in
+ * version 2 it is withdrawn, which leaves the map as it was before.
  *
  *     uint8_t value[GATEMAP_VALUE_BYTES];
  *     if (gatemap_set_point(file, length, s_bits, t_bits, value, sizeof value) == GATEMAP_DONE)
@@ -46,7 +48,7 @@ enum {
     GATEMAP_CELL_BYTES = 17,
     /* The longest file that is not refused: 4 + 105 + 34 * 1,000 bytes. */
     GATEMAP_MOST_FILE_BYTES = 34109,
-    /* The stack that a call may take: at most 11,264 bytes were measured (tests/host). */
+    /* The stack that a call may take: at most TODO(figures) 11,264 bytes were measured (tests/host). */
     GATEMAP_STACK_BYTES = 24576
 };
 
@@ -65,12 +67,12 @@ enum gatemap_answer {
     GATEMAP_TAKEN = 5,      /* a side that is not open */
     GATEMAP_INTERVAL = 6,   /* an interval that is infinite or not a number */
     GATEMAP_ITSELF = 7,     /* a point joined to itself */
-    GATEMAP_TORN = 8,       /* an edit done in part, its point not listed */
+    GATEMAP_TORN = 8,       /* an edit done in part, its point not listed, or withdrawn */
     GATEMAP_RING = 9,       /* a way that goes round */
     GATEMAP_FULL = 10,      /* a map of 128 points */
     GATEMAP_NO_POINT = 11,  /* a point that was never made */
     GATEMAP_LENGTH = 12,    /* a file of a wrong length, or with a wrong count in front */
-    GATEMAP_VERSION = 13,   /* a file whose version is not 1 */
+    GATEMAP_VERSION = 13,   /* a file whose version is neither 1 nor 2 */
     GATEMAP_HEADING = 14,   /* a file with an edit whose direction is above 3 */
     GATEMAP_NO_WEIGHT = 15, /* a weight at (s, t) that is not positive and finite */
     GATEMAP_SHORT = 16      /* a buffer under GATEMAP_VALUE_BYTES or GATEMAP_CELL_BYTES */
@@ -116,7 +118,8 @@ uint64_t gatemap_set_point(const uint8_t *file, size_t file_length, uint64_t s_b
  * 64 on. That bit is set exactly where some (s, t) of the cell, as doubles, lies
  * within the point's outer knots both ways, the first included and the last
  * excluded.
- * All other bits are 0; so is that of a torn edit's point, which is not listed.
+ * All other bits are 0; so is that of a torn edit's point, which in version 1 is
+ * made and not listed.
  *
  * Where several refusals hold, the first in this order is returned: a buffer
  * under 17 bytes 16, the file's 12, 13, 14, the evaluation's 3, 4 or 9.

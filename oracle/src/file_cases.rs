@@ -9,15 +9,12 @@ use crate::map_file::{
     host_answer, host_cell, read, run, sample, text,
 };
 use crate::random::Random;
-use crate::reading::{BORDER, DOWN, Insertion, LEFT, NO_WEIGHT, OPEN_SIDE, RIGHT, RING, UP};
+use crate::reading::{BORDER, CAPACITY, DOWN, FULL, Insertion, LEFT, NO_WEIGHT, OPEN_SIDE, RIGHT, RING, UP};
 
 /// How many are drawn of version 1 and of version 2.
 const DRAWN: [usize; 2] = [320, 72];
 const REFUSED_EVALUATIONS: [usize; 2] = [8, 4];
-const FULL_STORES: [usize; 2] = [4, 1];
-
-/// How many full stores there are in both versions.
-const FULL_TWINS: usize = 2;
+const FULL_STORES: [usize; 2] = [4, 2];
 
 /// What every byte of a C call's buffer is before the call, and all that a refusal leaves in it.
 const FILLER: u8 = 0xa5;
@@ -245,21 +242,21 @@ fn of_edits(random: &mut Random, count: usize) -> Vec<u8> {
     bytes_of(&MapFile { version: 1, border: 1.0, corners: SQUARE, edits })
 }
 
-/// As many edits as there may be: those that fill a store, and before them edits that are torn at the corners and withdrawn, so that the store
-/// has room for the others.
-fn most_withdrawn(random: &mut Random) -> MapFile {
-    let file = full_file(random, 2);
-    let torn = [(0, RIGHT, 0.0), (1, UP, 0.0), (2, LEFT, 0.0), (3, DOWN, 0.0)];
-    let mut edits = insertions(random, &torn.repeat(MOST_EDITS / torn.len()));
-    edits.truncate(MOST_EDITS - file.edits.len());
+/// The edits of a file behind so many that are torn at the corners. Where these are withdrawn, they leave all its room to the others.
+fn behind_torn(random: &mut Random, torn: usize, file: MapFile) -> MapFile {
+    let corners = [(0, RIGHT, 0.0), (1, UP, 0.0), (2, LEFT, 0.0), (3, DOWN, 0.0)];
+    let mut edits = insertions(random, &corners.repeat(torn.div_ceil(corners.len())));
+    edits.truncate(torn);
     edits.extend(&file.edits);
     MapFile { edits, ..file }
 }
 
-/// No edit, one, as many as there may be, one more; and a file whose last edit of all has no direction. Of version 2, as many as there may be.
+/// No edit, one, as many as there may be, one more; and a file whose last edit of all has no direction. Of version 2, as many as there may be, most of
+/// them withdrawn.
 fn edit_counts(random: &mut Random, version: u8) -> Vec<Vec<u8>> {
     if version == 2 {
-        return vec![bytes_of(&most_withdrawn(random))];
+        let full = full_file(random, version);
+        return vec![bytes_of(&behind_torn(random, MOST_EDITS - full.edits.len(), full))];
     }
     let mut files: Vec<Vec<u8>> = [0, 1, MOST_EDITS, MOST_EDITS + 1].map(|count| of_edits(random, count)).into();
     let mut last = files[2].clone();
@@ -337,7 +334,7 @@ fn noise(random: &mut Random, version: u8) -> Vec<Vec<u8>> {
 }
 
 /// Files that are alike but for the version and of which other texts are printed: the samples, edits after whose withdrawal something shows, turned to
-/// each side, and stores that are full later in version 2.
+/// each side, and a store that is full later in version 2.
 fn twins(random: &mut Random, _: u8) -> Vec<Vec<u8>> {
     let mut files = vec![sample(SAMPLES[1])];
     for edits in WITHDRAWN {
@@ -346,8 +343,18 @@ fn twins(random: &mut Random, _: u8) -> Vec<Vec<u8>> {
             files.push(square(random, 2, &turned));
         }
     }
-    files.extend((0..FULL_TWINS).map(|_| full_file(random, 2)));
+    files.push(full_later(random));
     files.iter().flat_map(in_both_versions).collect()
+}
+
+/// A store that is filled by torn edits where they stay, and by those behind them where they are withdrawn, and two edits more.
+fn full_later(random: &mut Random) -> MapFile {
+    let full = full_file(random, 2);
+    let mut file = behind_torn(random, CAPACITY, full);
+    file.edits.extend(insertions(random, &[(0, RIGHT, 0.5), (0, RIGHT, 0.0)]));
+    let first_full = |version: u8| run(&MapFile { version, ..file.clone() }).answers.iter().position(|answer| answer.number() == FULL);
+    assert!(first_full(1).expect("torn points fill it") < first_full(2).expect("points done fill it"));
+    file
 }
 
 fn in_both_versions(file: &MapFile) -> [Vec<u8>; 2] {
