@@ -194,8 +194,8 @@ fn same_answers(before: &MapAnswer, after: &MapAnswer) -> bool {
     bytes(before) == bytes(after)
 }
 
-/// A torn insertion is withdrawn where knots are kept: they and their index stay, and are the same built anew. The same insertion then stays, and what is
-/// built anew is another. Before, no knots are kept, and none are kept after a withdrawn insertion.
+/// A torn insertion is withdrawn where knots are kept: they and their index stay, and are the same built anew. The same insertion then stays, and
+/// what is built anew is another. Before, no knots are kept, and none are kept after a withdrawn insertion.
 fn withdrawn_kept(random: &mut Random) -> MapList {
     let mut list = square();
     assert_eq!(list.insert_or_withdraw(random, 0, RIGHT, 0.0).number(), TORN);

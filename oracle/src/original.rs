@@ -1,5 +1,5 @@
 //! The published calls, with points by number as they were made. Nothing here decides behaviour: each function hands its
-//! arguments on and reads the answer back.
+//! arguments on and reads the answer back. One is ours, the insertion that is withdrawn where it is torn: it is run on a copy.
 use crate::reading::{Knots, Point, Side, TORN};
 use published::errors::Error;
 use published::parking_lot::RwLock;
