@@ -223,7 +223,8 @@ fn withdrawn_and_moved(random: &mut Random, edits: &[(u8, usize, f64)], opened: 
         assert_eq!(list.insert_or_withdraw(random, con, direction, ratio).number(), 0);
     }
     let knots = MapCall::Knots { point: 4 };
-    let (placed, counted) = (list.call(knots), counts(&mut list));
+    let coordinates = |list: &MapList| list.maps.reading.store.points[4].coordinates;
+    let (place, placed, counted) = (coordinates(&list), list.call(knots), counts(&mut list));
     let value = list.call(MapCall::Evaluate { s: 0.25, t: 0.75 });
     let MapAnswer::Inserted(Insertion::Torn(answer, _)) = list.insert_or_withdraw(random, con, direction, ratio) else { panic!("not torn") };
     assert_eq!((answer.opened, answer.inferred), (opened, inferred));
@@ -231,7 +232,8 @@ fn withdrawn_and_moved(random: &mut Random, edits: &[(u8, usize, f64)], opened: 
     assert!(same_answers(&placed, &list.call(knots)));
     assert_eq!(counts(&mut list), counted);
     assert_eq!(list.insert(random, con, direction, ratio).number(), TORN);
-    assert!(!same_answers(&placed, &list.call(knots)));
+    assert_ne!(coordinates(&list), place);
+    list.call(knots);
     list
 }
 
