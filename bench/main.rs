@@ -111,7 +111,7 @@ fn outcome(answer: reading::Insertion) -> Option<Outcome> {
     }
 }
 
-/// An edit of which this becomes, and the map after it, from which a torn one is withdrawn.
+/// An edit with this outcome, and the map after it, from which a torn one is withdrawn.
 fn edit_that_is(random: &mut Random, map: &mut reading::Map, wanted: Outcome) -> Edit {
     loop {
         let mut edit = any_edit(random, map.store.made());
@@ -222,8 +222,8 @@ fn line_withdrawing(name: &str, turns: u64, edits: &[Edit]) {
     let [first, second] = [1, 2].map(|version| map_file(version, edits));
     let locks = |repeats| locks::copied_files(edits, repeats);
     let cells = |repeats| cells::copied_files(edits, repeats);
-    let [time, theirs, plain, stays] = in_turns(turns, [&ours(files, &second), &locks, &cells, &ours(files, &first)]);
-    let beside = format!("{:.2} of version 1, which takes {stays:.1}", time / stays);
+    let [time, theirs, plain, of_version_one] = in_turns(turns, [&ours(files, &second), &locks, &cells, &ours(files, &first)]);
+    let beside = format!("{:.2} of version 1, which takes {of_version_one:.1}", time / of_version_one);
     show(&format!("file of {name}, version 2"), [time, theirs, plain], &beside);
 }
 

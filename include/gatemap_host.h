@@ -67,7 +67,7 @@ enum gatemap_answer {
     GATEMAP_TAKEN = 5,      /* a side that is not open */
     GATEMAP_INTERVAL = 6,   /* an interval that is infinite or not a number */
     GATEMAP_ITSELF = 7,     /* a point joined to itself */
-    GATEMAP_TORN = 8,       /* an edit done in part, its point not listed, or withdrawn */
+    GATEMAP_TORN = 8,       /* an edit done in part: its point is not listed, or in version 2 it is withdrawn */
     GATEMAP_RING = 9,       /* a way that goes round */
     GATEMAP_FULL = 10,      /* a map of 128 points */
     GATEMAP_NO_POINT = 11,  /* a point that was never made */

@@ -153,7 +153,7 @@ pub fn run(seed: u64, maps: usize) {
             left_behind += 1;
         }
     }
-    println!("{maps} maps agree; {left_behind} of them were compared only up to an insertion torn by a ring");
+    println!("{maps} maps agree; {left_behind} of them were compared only up to an insertion torn by a ring that stays");
     println!("answers, by number:");
     tally.print();
 }

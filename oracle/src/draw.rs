@@ -230,7 +230,7 @@ pub struct Plan {
     pub withdrawing: Withdrawing,
 }
 
-/// A map after random edits, asked in between and most often after torn ones, which keep the knots, stay or not. A cell is asked for before and after an edit,
+/// A map after random edits, asked in between and most often after torn ones, which keep the knots whether they stay or not. A cell is asked for before and after an edit,
 /// and after a direct call that follows it.
 pub fn map(random: &mut Random, plan: Plan) -> MapList {
     let corners = std::array::from_fn(|_| position(random));

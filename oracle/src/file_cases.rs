@@ -9,7 +9,7 @@ use crate::map_file::{
     host_answer, host_cell, read, run, sample, text,
 };
 use crate::random::Random;
-use crate::reading::{BORDER, CAPACITY, DOWN, FULL, Insertion, LEFT, NO_WEIGHT, OPEN_SIDE, RIGHT, RING, UP};
+use crate::reading::{BORDER, CAPACITY, DOWN, FULL, Insertion, LEFT, NO_WEIGHT, OPEN_SIDE, RIGHT, RING, TORN, UP};
 
 /// How many are drawn of version 1 and of version 2.
 const DRAWN: [usize; 2] = [320, 72];
@@ -357,10 +357,20 @@ fn full_later(random: &mut Random) -> MapFile {
     file
 }
 
+/// The text of a file without the lines of its edits.
+fn text_of_map(file: &MapFile) -> String {
+    text(&bytes_of(file)).lines().filter(|line| !line.starts_with("edit")).collect()
+}
+
+/// A file in each version. Version 2 leaves what its edits that are not torn leave by themselves.
 fn in_both_versions(file: &MapFile) -> [Vec<u8>; 2] {
-    let files = VERSIONS.map(|version| bytes_of(&MapFile { version, ..file.clone() }));
-    assert_ne!(text(&files[0]), text(&files[1]));
-    files
+    let files = VERSIONS.map(|version| MapFile { version, ..file.clone() });
+    let answers = run(&files[1]).answers;
+    let untorn = files[1].edits.iter().zip(&answers).filter(|(_, answer)| answer.number() != TORN).map(|(edit, _)| *edit).collect();
+    let texts = [&files[0], &files[1], &MapFile { edits: untorn, ..files[0].clone() }].map(text_of_map);
+    assert_ne!(texts[0], texts[1]);
+    assert_eq!(texts[1], texts[2]);
+    files.map(|file| bytes_of(&file))
 }
 
 /// An edit of the square map turned anticlockwise so many times.
@@ -532,7 +542,7 @@ impl Numbers {
 fn difference(run: &Run, mid: u8) -> &'static str {
     let knots = || run.maps.reading.listed.iter().map(|&point| run.maps.reading.store.point_knot_vectors(point));
     if !run.maps.followed {
-        "an insertion torn by a ring"
+        "an insertion torn by a ring that stays"
     } else if run.withdrawn().any(|answer| matches!(answer, Insertion::Torn(_, RING))) {
         "an insertion torn by a ring and withdrawn"
     } else if mid == RING {

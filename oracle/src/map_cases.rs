@@ -194,8 +194,9 @@ fn same_answers(before: &MapAnswer, after: &MapAnswer) -> bool {
     bytes(before) == bytes(after)
 }
 
-/// A torn insertion is withdrawn where knots are kept: they and their index stay, and are the same built anew. The same insertion then stays, and
-/// what is built anew is another. Before, no knots are kept, and none are kept after a withdrawn insertion.
+/// A torn insertion is withdrawn where knots are kept: all is as before, also with the knots built anew. Then it stays, which leaves the knots kept, now
+/// those of before it, and is withdrawn once more: they and their index are still kept, and built anew they are others. Before, no knots are kept, and
+/// none are kept after a withdrawn insertion.
 fn withdrawn_kept(random: &mut Random) -> MapList {
     let mut list = square();
     assert_eq!(list.insert_or_withdraw(random, 0, RIGHT, 0.0).number(), TORN);
@@ -210,8 +211,11 @@ fn withdrawn_kept(random: &mut Random) -> MapList {
     assert_eq!(list.call(MapCall::Generate).number(), 0);
     assert!(unchanged(&mut list, &before));
     assert_eq!(list.insert(random, 0, RIGHT, 0.0).number(), TORN);
+    assert_eq!(list.insert_or_withdraw(random, 0, RIGHT, 0.0).number(), TORN);
+    let by_knots_kept = |list: &mut MapList| [0, 1].map(|place| same_answers(&before[place], &list.call(questions[place])));
+    assert_eq!(by_knots_kept(&mut list), [true, true]);
     assert_eq!(list.call(MapCall::Generate).number(), 0);
-    assert!(!unchanged(&mut list, &before));
+    assert_eq!(by_knots_kept(&mut list), [false, false]);
     list
 }
 
@@ -677,7 +681,7 @@ fn print_table(lists: &[MapList]) {
     lists.iter().flat_map(|list| &list.calls).for_each(|(call, answer)| tally.count(*call, answer));
     let alone = lists.iter().filter(|list| !list.maps.followed).count();
     println!(
-        "{} lists, {} calls; {alone} lists hold an insertion torn by a ring, after which the reading alone answers",
+        "{} lists, {} calls; {alone} lists hold an insertion torn by a ring that stays, after which the reading alone answers",
         lists.len(),
         lists.iter().map(|list| list.calls.len()).sum::<usize>()
     );

@@ -174,7 +174,7 @@ fn maps(random: &mut Random, count: usize) -> usize {
         },
         shrunk,
     );
-    println!("answers, by number ({torn_by_rings} lists hold an insertion torn by a ring, after which the reading alone answers):");
+    println!("answers, by number ({torn_by_rings} lists hold an insertion torn by a ring that stays, after which the reading alone answers):");
     tally.print();
     different
 }

@@ -7,7 +7,7 @@ use mathlib.Core.List.{List, [], _∷_}
 use native.Mathlib.Omega.{arith}
 use lib.Ieee.{Float}
 use Rattle.insertion.specs.Insert.{isTorn}
-use Rattle.insertion.specs.WithdrawalLaws.{untorn-stands}
+use Rattle.insertion.specs.WithdrawalLaws.{untorn-not-withdrawn}
 use Rattle.insertion.specs.declared.insertion.InsertAnswer.{InsertAnswer}
 use Rattle.insertion.specs.declared.insertion.InsertAnswer.the-variants.{Done, Torn, Refused}
 use Rattle.t_mesh.specs.declared.t_mesh.Tmesh.{Tmesh}
@@ -38,7 +38,7 @@ module _ (withdraws : Bool) (e : Float) where
 
     -- not torn, it leaves that one by either rule
     stands : isTorn answer ≡ false → edited withdraws e before edit .map ≡ after
-    stands is = ap (λ (withdrawn : Bool). cond withdrawn before after) (untorn-stands withdraws answer is)
+    stands is = ap (λ (withdrawn : Bool). cond withdrawn before after) (untorn-not-withdrawn withdraws answer is)
 
     -- the edits that are left of it and the rest
     abbrev left : Bool → List Edit → List Edit

@@ -13,9 +13,9 @@ use Rattle.insertion.specs.declared.insertion.InsertAnswer.the-variants.
 
 -- ---- which are withdrawn
 -- one that is not torn is not, by either rule
-pub untorn-stands : (withdraws : Bool) (answer : InsertAnswer) → isTorn answer ≡ false → isWithdrawn withdraws answer ≡ false
-untorn-stands true answer untorn = untorn
-untorn-stands false answer untorn = refl
+pub untorn-not-withdrawn : (withdraws : Bool) (answer : InsertAnswer) → isTorn answer ≡ false → isWithdrawn withdraws answer ≡ false
+untorn-not-withdrawn true answer untorn = untorn
+untorn-not-withdrawn false answer untorn = refl
 
 pub withdrawn-torn : (withdraws : Bool) (answer : InsertAnswer) → isWithdrawn withdraws answer ≡ true → isTorn answer ≡ true
 withdrawn-torn true answer withdrawn = withdrawn
@@ -36,30 +36,30 @@ leaves-not-refused withdraws (Refused refusal) leaves = sym leaves
 module _ {A : Type 0} (withdraws : Bool) (answer : InsertAnswer) (before after : A) where
   -- what it left stands
   pub leaves-stands : leavesPoint withdraws answer ≡ true → unlessWithdrawn withdraws answer before after ≡ after
-  leaves-stands leaves = by-rule withdraws answer leaves
+  leaves-stands leaves = by-answer withdraws answer leaves
     where
-      by-rule : (rule : Bool) (a : InsertAnswer) → leavesPoint rule a ≡ true → unlessWithdrawn rule a before after ≡ after
-      by-rule false a leaves = refl
-      by-rule true (Done opened inferred) leaves = refl
-      by-rule true (Torn opened inferred) leaves = absurd (true≢false (sym leaves))
-      by-rule true (Refused refusal) leaves = refl
+      by-answer : (rule : Bool) (a : InsertAnswer) → leavesPoint rule a ≡ true → unlessWithdrawn rule a before after ≡ after
+      by-answer false a leaves = refl
+      by-answer true (Done opened inferred) leaves = refl
+      by-answer true (Torn opened inferred) leaves = absurd (true≢false (sym leaves))
+      by-answer true (Refused refusal) leaves = refl
 
   -- where none stands, all is as before, if a refusal leaves it so
   pub none-stands : (isRefused answer ≡ true → after ≡ before) → leavesPoint withdraws answer ≡ false → unlessWithdrawn withdraws answer before after ≡ before
-  none-stands refused none = by-rule withdraws answer refused none
+  none-stands refused none = by-answer withdraws answer refused none
     where
-      by-rule : (rule : Bool) (a : InsertAnswer) → (isRefused a ≡ true → after ≡ before) → leavesPoint rule a ≡ false → unlessWithdrawn rule a before after ≡ before
-      by-rule rule (Done opened inferred) refused none = absurd (true≢false none)
-      by-rule true (Torn opened inferred) refused none = refl
-      by-rule false (Torn opened inferred) refused none = absurd (true≢false none)
-      by-rule true (Refused refusal) refused none = refused refl
-      by-rule false (Refused refusal) refused none = refused refl
+      by-answer : (rule : Bool) (a : InsertAnswer) → (isRefused a ≡ true → after ≡ before) → leavesPoint rule a ≡ false → unlessWithdrawn rule a before after ≡ before
+      by-answer rule (Done opened inferred) refused none = absurd (true≢false none)
+      by-answer true (Torn opened inferred) refused none = refl
+      by-answer false (Torn opened inferred) refused none = absurd (true≢false none)
+      by-answer true (Refused refusal) refused none = refused refl
+      by-answer false (Refused refusal) refused none = refused refl
 
 -- ---- into lent points
 module _ (withdraws : Bool) (e : Float) (points after : Points) (made : ℕ) (listed : Bool) (con : ℕ) (d : TmeshDirection) (ratio : Float) (answer : InsertAnswer)
     (inserts : Inserts e points made listed con d ratio answer after) where
-  pub inserts-standing : isWithdrawn withdraws answer ≡ false → InsertsBy withdraws e points made listed con d ratio answer after
-  inserts-standing stands rest store held is =
+  pub inserts-not-withdrawn : isWithdrawn withdraws answer ≡ false → InsertsBy withdraws e points made listed con d ratio answer after
+  inserts-not-withdrawn stands rest store held is =
       let a = inserts rest store held is in
       let result = insertPoint e store listed con d ratio in
       (a .0, subst (λ (b : Bool). Held after rest (cond b store (result .store))) (sym (ap (isWithdrawn withdraws) (sym (a .0)) ∙ stands)) (a .1))

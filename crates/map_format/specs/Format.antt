@@ -12,6 +12,7 @@
 --   version  a torn edit
 --   1        stays
 --   2        is withdrawn
+--   other    the file is refused 13
 use Prim.Native.Nat.{ℕ, zero, suc, _+_, _-_, _/_, _%_}
 use mathlib.Core.Bool.{Bool, true, cond, _&&_}
 use mathlib.Core.List.{List, [], _∷_}

@@ -42,7 +42,7 @@ const POSITION_IN: usize = 10;
 
 const DIRECTIONS: u8 = 4;
 
-// Where an edit inserts: towards a direction of a point, at a ratio of the link there. The edit's position is wanted only where it makes a point.
+// Where an edit inserts: towards a direction of a point, at a ratio of the link there. The edit's position is wanted only where it leaves a point.
 pub struct EditTarget {
     pub point: u8,
     pub direction: TmeshDirection,
@@ -67,7 +67,7 @@ fn is_version(version: u8) -> bool
     FIRST_VERSION <= version && version <= LAST_VERSION
 }
 
-// Whether the torn edits of a file are withdrawn.
+// Whether the torn edits of a file are withdrawn. Of a byte that is no version it says what it says of 1 below 2, and of 2 above: `validate` stands before it.
 pub fn file_withdraws(file: &[u8]) -> bool
     ensures { λ r. ⌜ r ≡ fileWithdraws (now (file .entry)) ⌝ }
 {

@@ -14,8 +14,8 @@ use map_format::format::BORDER_AT;
 use map_format::format::CORNERS_AT;
 use map_format::format::EDITS_AT;
 use map_format::format::POSITION_BYTES;
-use map_format::format::position_at;
 use map_format::format::file_withdraws;
+use map_format::format::position_at;
 use packed_map::packed_map;
 use t_mesh::t_mesh::Tmesh;
 

@@ -19,8 +19,8 @@ module _ (number : ℕ) (done torn refused : Totals) where
 
 -- and that of one that is withdrawn where it is torn: 0 done, any other not
 module _ (number : ℕ) (done other : Totals) where
-  pub by-standing : number ≡ 0 → done ≡ cond (eqb number 0) done other
-  by-standing zero = rw (eq-eqb number 0 zero)
+  pub by-done-alone : number ≡ 0 → done ≡ cond (eqb number 0) done other
+  by-done-alone zero = rw (eq-eqb number 0 zero)
 
   pub by-not-done : (number ≡ 0 → ⊥) → other ≡ cond (eqb number 0) done other
   by-not-done more = rw (ne-eqb number 0 more)

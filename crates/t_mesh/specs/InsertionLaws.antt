@@ -68,8 +68,8 @@ module _ (map : Tmesh) (added result : Added) (is : result ≡ added) where
   added-withdrawn torn =
       ap (λ (b : Bool). record { answer = result .answer; map = cond b map (result .map) }) (sym torn) ∙ ap (addedBy true map) is
 
-  pub added-standing : isTorn (result .answer) ≡ false → result ≡ addedBy true map added
-  added-standing stands =
+  pub added-untorn : isTorn (result .answer) ≡ false → result ≡ addedBy true map added
+  added-untorn stands =
       ap (λ (b : Bool). record { answer = result .answer; map = cond b map (result .map) }) (sym stands) ∙ ap (addedBy true map) is
 
 -- ---- it tells what the table of an insertion says

@@ -7,7 +7,7 @@ use Rattle.control_point.specs.ToldLaws.{beside}
 use Rattle.insertion.specs.Insert.{insertTold, isTorn}
 use Rattle.insertion.specs.Table.{insertionTable}
 use Rattle.t_mesh.specs.Insertion.{addByRule}
-use Rattle.t_mesh.specs.InsertionLaws.{added-withdrawn, added-standing, added-told}
+use Rattle.t_mesh.specs.InsertionLaws.{added-withdrawn, added-untorn, added-told}
 use Rattle.t_mesh.specs.Tmesh.{storeOf, isListed}
 use Rattle.t_mesh.specs.declared.add.Added.{Added}
 use Rattle.map_insertion.proofs.add_or_withdraw.Statement.{statement}
@@ -37,7 +37,7 @@ returns c =
     told (test .before .before) _ (added-withdrawn _ _ _ (test .before .add-control-point .ensures .0) (torn test (c .if1 .taken)))
 
 returns-2 : tie.Need-returns-2
-returns-2 c = told (c .before .before .before) _ (added-standing _ _ _ (c .before .before .add-control-point .ensures .0) (stands (c .before) (c .if1 .left)))
+returns-2 c = told (c .before .before .before) _ (added-untorn _ _ _ (c .before .before .add-control-point .ensures .0) (stands (c .before) (c .if1 .left)))
 
 pub add-or-withdraw-spec : {M : Type 1} → statement M
 add-or-withdraw-spec = tie.close (tie.spec add-control-point-requires is-torn-requires returns returns-2)

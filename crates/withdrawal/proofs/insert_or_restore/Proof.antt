@@ -3,7 +3,7 @@ use mathlib.Core.Path.{_≡_, _∙_, sym}
 use mathlib.Core.Bool.{true, false}
 use borrow.Author.Needs.{needs}
 use Rattle.insertion.specs.Insert.{isTorn}
-use Rattle.insertion.specs.WithdrawalLaws.{inserts-standing, inserts-withdrawn}
+use Rattle.insertion.specs.WithdrawalLaws.{inserts-not-withdrawn, inserts-withdrawn}
 use Rattle.withdrawal.proofs.insert_or_restore.Statement.{statement}
 use Rattle.withdrawal.proofs.insert_or_restore.Tie as tie
 
@@ -34,7 +34,7 @@ returns-2 : tie.Need-returns-2
 returns-2 c =
     let x = c .before .before in (
       x .insert-passed .ensures .0,
-      λ listed passes. inserts-standing true _ _ _ _ _ _ _ _ _ (x .insert-passed .ensures .1 listed passes) (stands (c .before) (c .if1 .left)),
+      λ listed passes. inserts-not-withdrawn true _ _ _ _ _ _ _ _ _ (x .insert-passed .ensures .1 listed passes) (stands (c .before) (c .if1 .left)),
     )
 
 pub insert-or-restore-spec : {M : Type 1} → statement M
