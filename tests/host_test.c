@@ -2,7 +2,7 @@
  * host_test CASES [PROGRAM]: tries the C calls, and with PROGRAM the program `gatemap` too, and says in one line how it went.
  *
  * The files are document 01's sample in each version, every prefix and every change of one byte of it; samples of 0, 1, 2, 999, 1,000 and 1,001 edits,
- * also with count or length one off; two edits of which the first is torn; maps with a line of 124 points on the lower edge, in version 2 among 868
+ * also with count or length one off; two edits of which the first is torn; maps with a line of 124 points on the lower edge, in version 2 among 124
  * withdrawn edits; and those of CASES, which is crates/file_replay/data/cases (oracle/README.md has its format).
  * Every call is made twice, with file and buffer right before memory that cannot be touched and right after such memory, so that one
  * byte read or written too far ends the test; what of the buffer's page is not to be written is looked at after each call.
@@ -471,7 +471,7 @@ static uint64_t next_cell(const uint8_t *bytes, size_t length)
 }
 
 /* How many edits of ratio 0.0 stand in version 2 before each edit of the line. They are torn at corner 0, whatever stands on its right. */
-enum { TORN_BEFORE = 7 };
+enum { TORN_BEFORE = 1 };
 
 /*
  * A map of 128 points: 124 edits halve the lower edge again and again, from left to right, and all sums are exact. A point of the edge has for its
