@@ -301,17 +301,17 @@ pub extern "C" fn bench_evaluations(edits: &[u8], repeats: u64) -> u64 {
 pub extern "C" fn bench_lent_evaluations(edits: &[u8], repeats: u64) -> u64 {
     let map = map_of(edits);
     let knots = [0.0; 5];
-    let position = [0.0; 3];
+    let place = [0.0; 4];
     let mut across = [knots; 128];
     let mut upwards = [knots; 128];
-    let mut positions = [position; 128];
+    let mut places = [place; 128];
     let mut listed = [false; 128];
-    lend(&mut across, &mut upwards, &mut positions, &mut listed, map);
+    lend(&mut across, &mut upwards, &mut places, &mut listed, map);
     let mut s = 0.25;
     let mut sum = 0.0;
     let mut turn: u64 = 0;
     while turn < repeats {
-        let value = lent_value(&across, &upwards, &positions, &listed, s, 0.5);
+        let value = lent_value(&across, &upwards, &places, &listed, s, 0.5);
         let z = value.z;
         sum = sum + z;
         s = 0.25 + z * 0.0625;

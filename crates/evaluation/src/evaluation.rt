@@ -11,16 +11,17 @@ use surface::evaluation::Evaluated;
 use surface::evaluation::Evaluation;
 use surface::evaluation::EvaluationAnswer;
 use surface::evaluation::Share;
-use t_mesh::t_mesh::Position;
+use t_mesh::t_mesh::Place;
 use t_mesh::t_mesh::Tmesh;
 
-// What a point adds at (s, t), by its knots and its position.
-pub fn share_of(knots: PointKnots, position: Position, s: f64, t: f64) -> Share
-    ensures { λ r. ⌜ r ≡ shareBy knots position s t ⌝ }
+// What a point adds at (s, t), by its knots, its position and its pull.
+pub fn share_of(knots: PointKnots, place: Place, s: f64, t: f64) -> Share
+    ensures { λ r. ⌜ r ≡ shareBy knots place s t ⌝ }
 {
     let across = knots.s;
     let upwards = knots.t;
-    let weight = basis_function(s, across) * basis_function(t, upwards);
+    let position = place.position;
+    let weight = basis_function(s, across) * basis_function(t, upwards) * place.pull;
     Share {
         x: position.x * weight,
         y: position.y * weight,
@@ -51,7 +52,7 @@ pub fn subs(mut map: Tmesh, s: f64, t: f64) -> Evaluated
         map = generated.map;
     }
     let listed = map.mesh.listed;
-    let positions = map.mesh.positions;
+    let places = map.mesh.places;
     let mut x = 0.0;
     let mut y = 0.0;
     let mut z = 0.0;
@@ -59,7 +60,7 @@ pub fn subs(mut map: Tmesh, s: f64, t: f64) -> Evaluated
     let mut n: usize = 0;
     while n < 128 {
         if listed[n] {
-            let share = share_of(map.knots[n], positions[n], s, t);
+            let share = share_of(map.knots[n], places[n], s, t);
             x = x + share.x;
             y = y + share.y;
             z = z + share.z;

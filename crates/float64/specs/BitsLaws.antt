@@ -1,12 +1,13 @@
 -- The statements of Bits hold by the IEEE library's laws of `ofBits` and `toBits`, and by computing at the one NaN. Assumes nothing.
 use Prim.Native.Nat.{ℕ, _%_, _≤_, _<_}
 use mathlib.Core.Path.{_≡_, refl, subst}
-use mathlib.Core.Bool.{not}
+use mathlib.Core.Bool.{false, not}
 use native.Mathlib.Omega.{arith}
 use lib.Dec.{T, ltb, eqb, eqb→eq, ltb→lt, lt→ltb, not-T}
-use lib.Ieee.{nan, div, nanBits, ofBits, toBits, binary64}
+use lib.Ieee.{nan, inf, div, nanBits, ofBits, ofFields, toBits, binary64}
 use lib.Ieee.Bits.{nanBits-is, nanBits-above, ofBits-toBits}
 use lib.Ieee.Fits.{and-i, eq→eqb}
+use Rattle.float64.specs.Literals.{zeroLiteral, oneLiteral}
 use Rattle.float64.specs.Nan.{is-nan}
 use Rattle.float64.specs.Bits.{signBit, infinityBits, exponentField, fractionField, NanWritten, NanRead, ReadBack}
 
@@ -45,3 +46,8 @@ up-to-infinity bits h = rw (nanBits-above binary64 bits) (not-below infinityBits
 pub zero-by-zero : div binary64 (ofBits binary64 0) (ofBits binary64 0) ≡ nan
 unfolding div ofBits
 zero-by-zero = refl
+
+-- 1.0 / 0.0, as code writes the infinity
+pub infinity : div binary64 oneLiteral zeroLiteral ≡ inf false
+unfolding ofBits ofFields div
+infinity = refl

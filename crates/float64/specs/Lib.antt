@@ -1,4 +1,4 @@
--- What other crates cite on f64, so that none of them opens a float: the NaN, the order, rounding and signs, each with its laws, then the weighted mean
+-- What other crates cite on f64, so that none of them opens a float: the NaN, the order, rounding, signs and products with 1.0, each with its laws, then the weighted mean
 -- and the bit patterns.
 pub mod Literals
 pub mod Sign
@@ -6,6 +6,7 @@ pub mod Nan
 pub mod Order
 pub mod Rounding
 pub mod SignLaws
+pub mod ProductLaws
 pub mod Monotone
 pub mod Mean
 pub mod MeanLaws

@@ -158,9 +158,9 @@ same-value s m e (fin t n d) h = rw (h .0) (go s)
     go false = let k = h .1 in (cross→le (fin false m e) (fin false n d) tt tt (omega arith), cross→le (fin false n d) (fin false m e) tt tt (omega arith))
     go true = let k = h .1 in (cross→le (fin true m e) (fin true n d) tt tt (omega arith), cross→le (fin true n d) (fin true m e) tt tt (omega arith))
 
--- what `fits` tests of a value that is not 0: the digits, the exponent and the size
-fits-says : (f : Format) (s : Bool) (m : ℕ) (e : ℤ) → T (fits f (fin s (suc m) e))
-    → (suc m < 2 ^ prec f) × (down e ≤ 2 ^ low f) × (suc m * up e < 2 ^ suc (emax f) * down e)
+-- what `fits` tests of a value that is not 0: the digits, the exponent, the size, and that the digits are odd
+pub fits-says : (f : Format) (s : Bool) (m : ℕ) (e : ℤ) → T (fits f (fin s (suc m) e))
+    → (suc m < 2 ^ prec f) × (down e ≤ 2 ^ low f) × (suc m * up e < 2 ^ suc (emax f) * down e) × (suc m % 2 ≡ 1)
 unfolding fits
 fits-says f s m e h =
     let odd-digits = eqb (suc m % 2) 1 in
@@ -171,6 +171,7 @@ fits-says f s m e h =
       ltb→lt (suc m) (2 ^ prec f) (and-r odd-digits digits (and-l (odd-digits && digits) exponent first-three)),
       leb→le (down e) (2 ^ low f) (and-r (odd-digits && digits) exponent first-three),
       ltb→lt (suc m * up e) (2 ^ suc (emax f) * down e) (and-r (odd-digits && digits && exponent) bound h),
+      eqb→eq (suc m % 2) 1 (and-l odd-digits digits (and-l (odd-digits && digits) exponent first-three)),
     )
 
 exponent-le : (i j : ℕ) → 2 ^ i ≤ 2 ^ j → i ≤ j
@@ -187,7 +188,7 @@ own-shift f (negsuc k) h =
     let l = exponent-le (suc k) (low f) h in
     (low f - suc k, one-mul (2 ^ low f) ∙ ap (λ (z : ℕ). 2 ^ z) (sym (sub-add-cancel l)) ∙ pow-add 2 (low f - suc k) (suc k))
 
-own-value : (f : Format) (s : Bool) (m : ℕ) (e : ℤ) → T (fits f (fin s m e)) → HasValue (round f s (m * up e) (down e)) s (m * up e) (down e)
+pub own-value : (f : Format) (s : Bool) (m : ℕ) (e : ℤ) → T (fits f (fin s m e)) → HasValue (round f s (m * up e) (down e)) s (m * up e) (down e)
 own-value f s zero e h =
     round-exact f s (0 * up e) (down e) 0 0 (down-pos e) (pow-pos (prec f)) (pow-pos (low f + suc (emax f)))
     (rw (zero-mul (up e), zero-mul (2 ^ low f), zero-mul (down e)))

@@ -1,4 +1,4 @@
--- THE LEDGER OF SIDES. Take any list of insertions, with evaluations and questions of cells among them or none, on a fresh map of any border weight and corners,
+-- THE LEDGER OF SIDES. Take any list of insertions, with evaluations, questions of cells and settings of pulls among them or none, on a fresh map of any border weight and corners,
 -- with any closeness and any arguments, calls refused, torn or withdrawn among them. Let C be how many insertions are answered done or torn and are not withdrawn, O the
 -- sum of the sides that they opened and I the sum of the links that they inferred, as they answer. Then the map that the list leaves has
 --
@@ -24,7 +24,7 @@ use Rattle.t_mesh.specs.declared.t_mesh.Position.{Position}
 use Rattle.t_mesh.specs.declared.t_mesh.Tmesh.{Tmesh}
 use Rattle.census.specs.Census.{countsOf}
 use Rattle.openings.specs.Openings.{openingsOf, openingsAnswer}
-use Rattle.calls.specs.Calls.{Call, Answer, inserted, evaluated, questioned, callWithdraws, Event, runOf}
+use Rattle.calls.specs.Calls.{Call, Answer, inserted, evaluated, questioned, pulled, callWithdraws, Event, runOf}
 use Rattle.soundness.specs.MapCalls.{mapAfterAll, entries}
 use Rattle.soundness.specs.Theorems.{EveryMap}
 use Rattle.ledger.specs.Ledger.{enteredBefore, doneOrTorn, sidesOpened, linksInferred, countsBy, openingsBy}
@@ -34,6 +34,7 @@ abbrev pub answerBefore : Bool → Answer → List InsertAnswer → List InsertA
 answerBefore withdraws (inserted answer) rest = enteredBefore withdraws answer rest
 answerBefore withdraws (evaluated answer) rest = rest
 answerBefore withdraws (questioned answer) rest = rest
+answerBefore withdraws (pulled outcome) rest = rest
 
 -- what the insertions of a run that are not withdrawn answered, in order
 unfoldable pub enteredAnswers : List Event → List InsertAnswer

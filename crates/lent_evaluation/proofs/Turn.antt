@@ -13,18 +13,18 @@ use Rattle.control_point.specs.declared.refusal.Refusal.{Refusal}
 use Rattle.grid_index.specs.Index.{knotsIn, indexOf}
 use Rattle.knot_vectors.specs.Knots.{AllKnots, all, none, allKnots, keeping, generateKnotVectors}
 use Rattle.lent_knots.specs.TurnLaws.{FilledTo, filled-none, filled-all, filled-passed, filled-refused, filled-put, filled-row}
-use Rattle.lent_mesh.specs.LentMesh.{lentPosition, lentMesh, unkept, lentMap}
+use Rattle.lent_mesh.specs.LentMesh.{unpulledAt, lentMesh, unkept, lentMap}
 use Rattle.lent_points.specs.Lent.{acrossAt, upwardsAt}
 use Rattle.ray.specs.Knots.{knotsAt}
 use Rattle.ray.specs.declared.knots.KnotsAnswer.{KnotsAnswer}
 use Rattle.ray.specs.declared.knots.PointKnots.{PointKnots}
-use Rattle.surface.specs.Evaluation.{noPosition, shareBy, valueOf, answerBy, withKnots, subsOf}
+use Rattle.surface.specs.Evaluation.{shareBy, valueOf, answerBy, withKnots, subsOf}
 use Rattle.surface.specs.EvaluationLaws.{Sums, sums-start, sums-end, sums-added, sums-passed}
 use Rattle.surface.specs.declared.evaluation.EvaluationAnswer.the-variants.{Is, Refused}
 use Rattle.surface.specs.declared.evaluation.Share.{Share}
-use Rattle.t_mesh.specs.Tmesh.{listedIn}
+use Rattle.t_mesh.specs.Tmesh.{noPlace, listedIn}
 use Rattle.t_mesh.specs.declared.t_mesh.Mesh.{Mesh}
-use Rattle.t_mesh.specs.declared.t_mesh.Position.{Position}
+use Rattle.t_mesh.specs.declared.t_mesh.Place.{Place}
 use Rattle.t_mesh.specs.declared.t_mesh.Tmesh.{Tmesh}
 use Rattle.values.specs.ValuesLaws.{values-first}
 
@@ -84,21 +84,21 @@ module _ (e : Float) (kinds numbers : List ℕ) (intervals coordinates : List Fl
         turn-refused refusal o =
             sym (subs-by e mesh s t (none refusal) (filled-refused e kinds numbers intervals coordinates made positions listed n (turn .filled) h built k l refusal o))
 
-        pub turn-added : built .outcome ≡ Done → (position : Position) → position ≡ lentPosition positions n → (share : Share) → share ≡ shareBy (built .knots) position s t
+        pub turn-added : built .outcome ≡ Done → (place : Place) → place ≡ unpulledAt positions n → (share : Share) → share ≡ shareBy (built .knots) place s t
             → (x′ y′ z′ weight′ : Float) → x′ ≡ add binary64 x (share .x) → y′ ≡ add binary64 y (share .y) → z′ ≡ add binary64 z (share .z) → weight′ ≡ add binary64 weight (share .weight)
             → LentTurn (n + 1) x′ y′ z′ weight′
-        turn-added o position lent share is x′ y′ z′ weight′ a b c d =
+        turn-added o place lent share is x′ y′ z′ weight′ a b c d =
             record {
               filled = filled-put e kinds numbers intervals coordinates made positions listed n (turn .filled) h built k l o;
               sums = λ rows are. sums-added (keptMap mesh rows) s t n x y z weight x′ y′ z′ weight′ h (turn .sums rows are) share l (shared rows are) a b c d;
             }
           where
-            stands : position ≡ getD (mesh .positions) n noPosition
-            stands = lent ∙ sym (values-first (lentPosition positions) noPosition 128 n h)
+            stands : place ≡ getD (mesh .places) n noPlace
+            stands = lent ∙ sym (values-first (unpulledAt positions) noPlace 128 n h)
 
-            shared : (rows : List PointKnots) → allKnots e map ≡ all rows → share ≡ shareBy (knotsIn rows n) (getD (mesh .positions) n noPosition) s t
+            shared : (rows : List PointKnots) → allKnots e map ≡ all rows → share ≡ shareBy (knotsIn rows n) (getD (mesh .places) n noPlace) s t
             shared rows are =
                 is
-                ∙ ap (λ (p : Position). shareBy (built .knots) p s t) stands
-                ∙ ap (λ (own : PointKnots). shareBy own (getD (mesh .positions) n noPosition) s t)
+                ∙ ap (λ (p : Place). shareBy (built .knots) p s t) stands
+                ∙ ap (λ (own : PointKnots). shareBy own (getD (mesh .places) n noPlace) s t)
                 (sym (filled-row e kinds numbers intervals coordinates made positions listed n (turn .filled) h built k l o rows are))

@@ -1,4 +1,4 @@
-// The evaluation of a lent mesh: the knots of each listed point are computed, used and forgotten.
+// The evaluation of a lent mesh: the knots of each listed point are computed, used and forgotten; every pull is 1.0.
 ghost use mathlib.Core.Path.{_≡_};
 ghost use Rattle.lent_mesh.specs.LentMesh.{lentMap};
 ghost use Rattle.surface.specs.Evaluation.{subsOf};
@@ -8,6 +8,7 @@ use lent_knots::knots_under;
 use lent_mesh::lent_position;
 use surface::evaluation::Evaluation;
 use surface::evaluation::EvaluationAnswer;
+use t_mesh::t_mesh::unpulled;
 
 // At (s, t). The first listed point whose knots are refused ends it, whatever was summed before.
 pub fn lent_answer<'a>(
@@ -38,7 +39,8 @@ pub fn lent_answer<'a>(
             if let Outcome::Refused(refusal) = outcome {
                 return EvaluationAnswer::Refused(refusal);
             }
-            let share = share_of(built.knots, lent_position(positions, n), s, t);
+            let place = unpulled(lent_position(positions, n));
+            let share = share_of(built.knots, place, s, t);
             x = x + share.x;
             y = y + share.y;
             z = z + share.z;

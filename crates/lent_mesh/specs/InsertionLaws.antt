@@ -23,39 +23,43 @@ use Rattle.lent_points.specs.Lent.{Points, Held}
 use Rattle.lent_points.specs.LentLaws.{true-false}
 use Rattle.t_mesh.specs.Insertion.{insertIntoMesh, meshByRule}
 use Rattle.t_mesh.specs.InsertionLaws.{placed-made, mesh-refused, mesh-placed}
-use Rattle.t_mesh.specs.Tmesh.{meshStore, listedIn, origin}
+use Rattle.t_mesh.specs.Tmesh.{unpulled, noPlace, meshStore, listedIn}
 use Rattle.t_mesh.specs.declared.add.InsertedMesh.{InsertedMesh}
 use Rattle.t_mesh.specs.declared.t_mesh.Mesh.{Mesh}
+use Rattle.t_mesh.specs.declared.t_mesh.Place.{Place}
 use Rattle.t_mesh.specs.declared.t_mesh.Position.{Position}
 use Rattle.values.specs.Values.{valuesFrom}
 use Rattle.values.specs.ValuesLaws.{values-length, values-at, values-are}
-use Rattle.lent_mesh.specs.LentMesh.{rowOf, rowPosition, lentPosition, meshOver}
+use Rattle.lent_mesh.specs.LentMesh.{rowOf, rowPosition, unpulledAt, meshOver}
 use Rattle.lent_mesh.specs.LentMeshLaws.{loosePoints, mesh-held, held-same}
 
--- ---- a row stored anew is its position stored anew
+-- ---- a row stored anew is its place stored anew
 module _ (positions : List (List Float)) (room : length positions ≡ 128) (n : ℕ) (h : n < 128) (position : Position) where
-  abbrev places : List Position
-  places = valuesFrom (lentPosition positions) 128 0
+  abbrev places : List Place
+  places = valuesFrom (unpulledAt positions) 128 0
 
   abbrev rows : List (List Float)
   rows = set positions n (rowOf position)
 
-  position-stored : set places n position ≡ valuesFrom (lentPosition rows) 128 0
-  position-stored =
-      values-are (lentPosition rows) origin 128 (set places n position) (length-set places n position ∙ values-length (lentPosition positions) 128 0)
+  abbrev placeIn : List Float → Place
+  placeIn row = unpulled (rowPosition row)
+
+  place-stored : set places n (unpulled position) ≡ valuesFrom (unpulledAt rows) 128 0
+  place-stored =
+      values-are (unpulledAt rows) noPlace 128 (set places n (unpulled position)) (length-set places n (unpulled position) ∙ values-length (unpulledAt positions) 128 0)
       (λ m l. by-test m (eqb m n) refl l)
     where
-      by-test : (m : ℕ) (same : Bool) → eqb m n ≡ same → m < 128 → getD (set places n position) m origin ≡ lentPosition rows m
+      by-test : (m : ℕ) (same : Bool) → eqb m n ≡ same → m < 128 → getD (set places n (unpulled position)) m noPlace ≡ unpulledAt rows m
       by-test m true x l =
-          ap (λ (k : ℕ). getD (set places n position) k origin) (eqb-true m n x)
-          ∙ getD-set-same places n position origin (omega (arith, h, values-length (lentPosition positions) 128 0))
-          ∙ sym (ap rowPosition (getD-set-same positions n (rowOf position) [] (omega (arith, h, room))))
-          ∙ ap (lentPosition rows) (sym (eqb-true m n x))
+          ap (λ (k : ℕ). getD (set places n (unpulled position)) k noPlace) (eqb-true m n x)
+          ∙ getD-set-same places n (unpulled position) noPlace (omega (arith, h, values-length (unpulledAt positions) 128 0))
+          ∙ sym (ap placeIn (getD-set-same positions n (rowOf position) [] (omega (arith, h, room))))
+          ∙ ap (unpulledAt rows) (sym (eqb-true m n x))
       by-test m false x l =
-          getD-set-other places n m position origin (eqb-false m n x)
-          ∙ values-at (lentPosition positions) origin 128 0 m l
-          ∙ ap (lentPosition positions) (omega arith)
-          ∙ sym (ap rowPosition (getD-set-other positions n m (rowOf position) [] (eqb-false m n x)))
+          getD-set-other places n m (unpulled position) noPlace (eqb-false m n x)
+          ∙ values-at (unpulledAt positions) noPlace 128 0 m l
+          ∙ ap (unpulledAt positions) (omega arith)
+          ∙ sym (ap placeIn (getD-set-other positions n m (rowOf position) [] (eqb-false m n x)))
 
 -- ---- an insertion
 -- what an insertion into points is to the mesh that they held: the answer is the mesh's; where it leaves no point, they hold the mesh that it leaves; else there
@@ -88,7 +92,7 @@ module _ (withdraws : Bool) (e : Float) (points : Points) (made : ℕ) (position
   unfolding insertIntoMesh
   mesh-kept none =
       let none-left = ap (leavesPoint withdraws) (sym (held-after .0)) ∙ none in
-      ap (λ (list : List TmeshControlPoint). record { points = list; made = made; positions = mesh .positions; listed = listed })
+      ap (λ (list : List TmeshControlPoint). record { points = list; made = made; places = mesh .places; listed = listed })
       (held-same after loosePoints (meshStore (meshOver after made positions listed)) (meshStore mesh) refl
       (mesh-held after made positions listed)
       (subst (Held after loosePoints) (none-stands withdraws (inserted .answer) (meshStore mesh) (inserted .store) (store-kept (inserted .answer) refl) none-left) (held-after .1)))
@@ -116,8 +120,8 @@ module _ (withdraws : Bool) (e : Float) (points : Points) (made : ℕ) (position
   mesh-more stands full row at-row done listing =
       ap (λ (r : List Float). meshOver after (made + 1) (set positions made r) (set listed made done)) at-row
       ∙ ap (λ (b : Bool). meshOver after (made + 1) (set positions made (rowOf position)) (set listed made b)) listing
-      ∙ ap (λ (places : List Position). record { points = more .points; made = made + 1; positions = places; listed = more .listed })
-      (sym (position-stored positions full made (one-more stands .0) position))
+      ∙ ap (λ (places : List Place). record { points = more .points; made = made + 1; places = places; listed = more .listed })
+      (sym (place-stored positions full made (one-more stands .0) position))
       ∙ ap (λ (x : InsertedMesh). x .mesh)
       (mesh-placed mesh position (more .points) (made + 1) answer (isDone answer) inserted (held-after .0) (leaves-not-refused withdraws answer stands)
       (held-same after loosePoints (meshStore more) (inserted .store) (sym (one-more stands .1))

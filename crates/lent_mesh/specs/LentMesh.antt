@@ -1,6 +1,6 @@
 -- A mesh, lent: its points as `lent_points` has them, how many are made, and in two arrays of their own the position of each point, a row of
--- three floats, and whether it is listed. The mesh that such arrays hold has the made ones of the points, and loose points beyond them. Its
--- map keeps no knots and no index.
+-- three floats, and whether it is listed. The mesh that such arrays hold has the made ones of the points, and loose points beyond them; every
+-- pull of it is 1.0, since no map file sets one. Its map keeps no knots and no index.
 use Prim.Native.Nat.{ℕ}
 use mathlib.Core.Bool.{Bool, false, cond}
 use mathlib.Core.List.{List, [], _∷_}
@@ -11,8 +11,9 @@ use Rattle.float64.specs.Literals.{zeroLiteral}
 use Rattle.control_point.specs.Point.{isMade, loosePoint}
 use Rattle.lent_points.specs.Lent.{Points, lentPoints, Room}
 use Rattle.values.specs.Values.{valuesFrom}
-use Rattle.t_mesh.specs.Tmesh.{blankKnots, blankIndex}
+use Rattle.t_mesh.specs.Tmesh.{unpulled, blankKnots, blankIndex}
 use Rattle.t_mesh.specs.declared.t_mesh.Mesh.{Mesh}
+use Rattle.t_mesh.specs.declared.t_mesh.Place.{Place}
 use Rattle.t_mesh.specs.declared.t_mesh.Position.{Position}
 use Rattle.t_mesh.specs.declared.t_mesh.Tmesh.{Tmesh}
 
@@ -28,6 +29,10 @@ rowPosition row = record { x = getD row 0 nan; y = getD row 1 nan; z = getD row 
 abbrev pub lentPosition : List (List Float) → ℕ → Position
 lentPosition positions n = rowPosition (getD positions n [])
 
+-- the place of a point that stands in its row
+abbrev pub unpulledAt : List (List Float) → ℕ → Place
+unpulledAt positions n = unpulled (lentPosition positions n)
+
 -- ---- the mesh
 -- of points, of which so many are made, the made ones and loose ones beyond
 abbrev pub madeOrLoose : Points → ℕ → Points
@@ -39,7 +44,7 @@ meshOver points made positions listed =
     record {
       points = valuesFrom (madeOrLoose points made) 128 0;
       made = made;
-      positions = valuesFrom (lentPosition positions) 128 0;
+      places = valuesFrom (unpulledAt positions) 128 0;
       listed = listed;
     }
 

@@ -18,11 +18,12 @@ use Rattle.lent_points.specs.Lent.{Points, pointsWith, Held, FilledTo}
 use Rattle.lent_points.specs.LentLaws.{filled-none, filled-more, PackedTo, held-packed}
 use Rattle.store.specs.Store.{storePoint}
 use Rattle.store.specs.declared.store.Store.{Store}
-use Rattle.t_mesh.specs.Tmesh.{meshStore, corners, cornerStore, origin, newTmesh}
+use Rattle.t_mesh.specs.Tmesh.{unpulled, noPlace, meshStore, corners, cornerStore, origin, newTmesh}
+use Rattle.t_mesh.specs.declared.t_mesh.Place.{Place}
 use Rattle.t_mesh.specs.declared.t_mesh.Position.{Position}
 use Rattle.values.specs.Values.{valuesFrom}
 use Rattle.values.specs.ValuesLaws.{values-length, values-at, values-are}
-use Rattle.lent_mesh.specs.LentMesh.{rowOf, rowPosition, lentPosition, madeOrLoose, meshOver, unkept}
+use Rattle.lent_mesh.specs.LentMesh.{rowOf, rowPosition, unpulledAt, madeOrLoose, meshOver, unkept}
 
 -- ---- the points
 -- what stands beyond the made ones
@@ -78,10 +79,10 @@ packed-all points loose list made count same few below within packed =
     (subst (λ (point : TmeshControlPoint). Held points (replicate 128 point) (meshStore (meshOver points made [] []))) (sym same) (mesh-held points made [] []))
     below within packed
 
--- with the points packed and the positions too the map is the one that the arrays hold
-pub packed-mesh : (points : Points) (made : ℕ) (positions : List (List Float)) (listed : List Bool) (list : List TmeshControlPoint) (places : List Position)
-    → list ≡ valuesFrom (madeOrLoose points made) 128 0 → places ≡ valuesFrom (lentPosition positions) 128 0
-    → unkept (record { points = list; made = made; positions = places; listed = listed }) ≡ unkept (meshOver points made positions listed)
+-- with the points packed and the places too the map is the one that the arrays hold
+pub packed-mesh : (points : Points) (made : ℕ) (positions : List (List Float)) (listed : List Bool) (list : List TmeshControlPoint) (places : List Place)
+    → list ≡ valuesFrom (madeOrLoose points made) 128 0 → places ≡ valuesFrom (unpulledAt positions) 128 0
+    → unkept (record { points = list; made = made; places = places; listed = listed }) ≡ unkept (meshOver points made positions listed)
 packed-mesh points made positions listed list places same there = rw (same, there)
 
 -- ---- the four corners
@@ -132,11 +133,11 @@ module _ (bottomLeft bottomRight topRight topLeft : Position) where
   pub corner-rows : (p q r s : List Float) → p ≡ rowOf bottomLeft → q ≡ rowOf bottomRight → r ≡ rowOf topRight → s ≡ rowOf topLeft → fourThen p q r s (replicate 3 zeroLiteral) ≡ cornerRows
   corner-rows p q r s first second third fourth = rw (first, second, third, fourth)
 
-  corner-positions : valuesFrom (lentPosition cornerRows) 128 0 ≡ fourThen bottomLeft bottomRight topRight topLeft origin
-  corner-positions =
-      four-values bottomLeft bottomRight topRight topLeft origin (lentPosition cornerRows) origin refl refl refl refl
+  corner-places : valuesFrom (unpulledAt cornerRows) 128 0 ≡ fourThen (unpulled bottomLeft) (unpulled bottomRight) (unpulled topRight) (unpulled topLeft) (unpulled origin)
+  corner-places =
+      four-values (unpulled bottomLeft) (unpulled bottomRight) (unpulled topRight) (unpulled topLeft) (unpulled origin) (unpulledAt cornerRows) noPlace refl refl refl refl
       (λ n h.
-      ap rowPosition (getD-replicate 124 n (replicate 3 zeroLiteral) [] h))
+      ap (λ (row : List Float). unpulled (rowPosition row)) (getD-replicate 124 n (replicate 3 zeroLiteral) [] h))
 
   -- the points of the corners, their positions and their listing are the map of four corners
   pub corners-map : (points : Points) (weight : Float) (positions : List (List Float)) (listed : List Bool) → FilledTo 4 points (corners weight) → positions ≡ cornerRows → listed ≡ fourThen true true true true false
@@ -145,7 +146,7 @@ module _ (bottomLeft bottomRight topRight topLeft : Position) where
   corners-map points weight positions listed filled rows listing =
       ap (λ (x : List (List Float)). unkept (meshOver points 4 x listed)) rows
       ∙ ap (λ (x : List Bool). unkept (meshOver points 4 cornerRows x)) listing
-      ∙ ap (λ (x : List TmeshControlPoint). unkept (record { points = x; made = 4; positions = valuesFrom (lentPosition cornerRows) 128 0; listed = fourThen true true true true false }))
+      ∙ ap (λ (x : List TmeshControlPoint). unkept (record { points = x; made = 4; places = valuesFrom (unpulledAt cornerRows) 128 0; listed = fourThen true true true true false }))
       (corner-points points weight filled)
-      ∙ ap (λ (x : List Position). unkept (record { points = cornerStore weight .points; made = 4; positions = x; listed = fourThen true true true true false }))
-      corner-positions
+      ∙ ap (λ (x : List Place). unkept (record { points = cornerStore weight .points; made = 4; places = x; listed = fourThen true true true true false }))
+      corner-places

@@ -12,6 +12,7 @@ use t_mesh::add::InsertedMesh;
 use t_mesh::t_mesh::Mesh;
 use t_mesh::t_mesh::Position;
 use t_mesh::t_mesh::is_listed;
+use t_mesh::t_mesh::unpulled;
 
 // Into the mesh alone: the knots of a map, which are large, need not be passed. The made points are unpacked, and packed where they stood.
 pub fn insert_into(
@@ -63,7 +64,8 @@ pub fn insert_into(
             packed += 1;
         }
         mesh.made = p + 1;
-        mesh.positions[p as usize] = position;
+        let place = unpulled(position);
+        mesh.places[p as usize] = place;
         mesh.listed[p as usize] = is_done(answer);
     }
     InsertedMesh { answer, mesh }

@@ -1,7 +1,7 @@
 // The map by value that a lent mesh holds.
 ghost use mathlib.Core.Path.{_≡_};
 ghost use Rattle.values.specs.Values.{valuesFrom};
-ghost use Rattle.lent_mesh.specs.LentMesh.{lentPosition, madeOrLoose, lentMap};
+ghost use Rattle.lent_mesh.specs.LentMesh.{unpulledAt, madeOrLoose, lentMap};
 ghost use Rattle.lent_points.specs.Lent.{lentPoints};
 use control_point::t_mesh_control_point::TmeshControlPoint;
 use control_point::t_mesh_control_point::is_made;
@@ -11,8 +11,10 @@ use lent_mesh::lent_position;
 use lent_points::lent_point;
 use ray::knots::PointKnots;
 use t_mesh::t_mesh::Mesh;
+use t_mesh::t_mesh::Place;
 use t_mesh::t_mesh::Position;
 use t_mesh::t_mesh::Tmesh;
+use t_mesh::t_mesh::unpulled;
 
 // The points: the made ones, and loose ones beyond.
 fn packed_points<'a>(
@@ -34,18 +36,19 @@ fn packed_points<'a>(
     points
 }
 
-// The positions.
-fn packed_positions<'a>(positions: &'a [[f64; 3]; 128]) -> [Position; 128]
-    ensures { λ r. ⌜ r ≡ valuesFrom (lentPosition (now (positions .entry))) 128 0 ⌝ }
+// The places; every pull is 1.0.
+fn packed_places<'a>(positions: &'a [[f64; 3]; 128]) -> [Place; 128]
+    ensures { λ r. ⌜ r ≡ valuesFrom (unpulledAt (now (positions .entry))) 128 0 ⌝ }
 {
-    let mut places = [Position {
+    let origin = Position {
         x: 0.0,
         y: 0.0,
         z: 0.0,
-    }; 128];
+    };
+    let mut places = [unpulled(origin); 128];
     let mut n: u8 = 0;
     while n < 128 {
-        places[n as usize] = lent_position(positions, n);
+        places[n as usize] = unpulled(lent_position(positions, n));
         n += 1;
     }
     places
@@ -72,7 +75,7 @@ pub fn packed_map<'a>(
         mesh: Mesh {
             points,
             made,
-            positions: packed_positions(positions),
+            places: packed_places(positions),
             listed: *listed,
         },
         kept: false,

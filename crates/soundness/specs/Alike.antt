@@ -1,5 +1,5 @@
--- ALIKE BUT FOR POSITIONS. Two maps are alike but for positions where they have the same store and the same listing, keep knots both or neither, and where they keep them keep the
--- same for each listed point. Nothing is asked of the index, nor of rows of knots that are not kept. Take any two such maps that lists of calls leave of fresh maps. Then they have the
+-- ALIKE BUT FOR POSITIONS. Two maps are alike but for positions where they have the same store, the same listing and the same pulls, keep knots both or neither, and where they keep
+-- them keep the same for each listed point. Nothing is asked of the index, nor of rows of knots that are not kept. Take any two such maps that lists of calls leave of fresh maps. Then they have the
 -- same index, the same weights at every (s, t) and the same refusals; each call on both, also with different positions, answers the same but for positions and leaves the two alike
 -- again, and so does every list of calls. Two fresh maps of one border weight are alike whatever their corners are, so that for lists on them nothing is asked of a map.
 use Prim.Native.Nat.{ℕ}
@@ -10,7 +10,7 @@ use lib.Ieee.{Float}
 use Rattle.float64.specs.Literals.{zeroLiteral}
 use Rattle.control_point.specs.Told.{Told}
 use Rattle.control_point.specs.declared.refusal.Outcome.the-variants.{Done}
-use Rattle.calls.specs.Calls.{Call, insertion, evaluation, question, Answer, inserted, evaluated, questioned, answerTo}
+use Rattle.calls.specs.Calls.{Call, insertion, evaluation, question, pulling, Answer, inserted, evaluated, questioned, pulled, answerTo}
 use Rattle.cells.specs.Cells.{cellPoints}
 use Rattle.surface.specs.Evaluation.{evaluationNumber, knotsOf, weightOf, totalWeight, withKnots, subsOf, asSetPoint}
 use Rattle.surface.specs.declared.evaluation.EvaluationAnswer.{EvaluationAnswer}
@@ -21,18 +21,24 @@ use Rattle.t_mesh.specs.declared.t_mesh.Tmesh.{Tmesh}
 use Rattle.soundness.specs.MapCalls.{MapCall, entry, generate-knot-vectors, point-knot-vectors, cast-ray, direct, afterCall, mapAfterAll, toldTo, answerTold}
 
 -- ---- maps
+-- the pulls of a map, number by number
+abbrev pub pullsOf : Tmesh → List Float
+pullsOf own = map (λ place. place .pull) (own .mesh .places)
+
 pub record Alike (one other : Tmesh) : Type 0 where
   pub store : storeOf one ≡ storeOf other
   pub listing : one .mesh .listed ≡ other .mesh .listed
+  pub pulls : pullsOf one ≡ pullsOf other
   pub kept : one .kept ≡ other .kept
   pub knots : one .kept ≡ true → (n : ℕ) → isListed one n ≡ true → knotsOf one n ≡ knotsOf other n
 
 -- ---- calls and answers without positions
--- a call with the origin for an insertion's position
+-- a call with the origin for an insertion's position; a setting keeps its pull
 abbrev pub withoutPosition : Call → Call
 withoutPosition (insertion withdraws con d ratio position) = insertion withdraws con d ratio origin
 withoutPosition (evaluation s t) = evaluation s t
 withoutPosition (question cell) = question cell
+withoutPosition (pulling n pull) = pulling n pull
 
 abbrev pub callWithout : MapCall → MapCall
 callWithout (entry call) = entry (withoutPosition call)
@@ -50,6 +56,7 @@ abbrev pub answerWithout : Answer → Answer
 answerWithout (inserted answer) = inserted answer
 answerWithout (evaluated answer) = evaluated (valueWithout answer)
 answerWithout (questioned answer) = questioned answer
+answerWithout (pulled outcome) = pulled outcome
 
 -- what a call tells but for positions
 abbrev pub toldWithout : Float → Tmesh → MapCall → Told

@@ -1,6 +1,6 @@
--- A list of calls on one map: insertions by either rule on torn ones, evaluations and questions of cells, buildings of the knots, the calls on its store that only look at it (the knots of one
--- point, a ray), and the direct calls on that store, a point made alone among them; in any order, with any arguments, whatever they answer. A
--- direct call leaves the listing, the positions, the kept knots and their index as they are. Lending a map is none of them: it leaves the map that an
+-- A list of calls on one map: insertions by either rule on torn ones, evaluations, questions of cells and settings of pulls, buildings of the knots, the calls on its store that only look at
+-- it (the knots of one point, a ray), and the direct calls on that store, a point made alone among them; in any order, with any arguments, whatever they answer. A
+-- direct call leaves the listing, the places, the kept knots and their index as they are. Lending a map is none of them: it leaves the map that an
 -- evaluation leaves (the theorem `LendingIsSubs` of lent_surface).
 use Prim.Native.Nat.{ℕ}
 use mathlib.Core.Bool.{Bool, true, false, _&&_}
@@ -19,9 +19,9 @@ use Rattle.t_mesh.specs.declared.t_mesh.Tmesh.{Tmesh}
 use Rattle.knot_vectors.specs.Knots.{generateKnotVectors}
 use Rattle.cells.specs.Cells.{cellTold}
 use Rattle.surface.specs.Evaluation.{evaluationTold}
-use Rattle.calls.specs.Calls.{Call, Answer, inserted, evaluated, questioned, callWithdraws, answerTo, mapAfter}
+use Rattle.calls.specs.Calls.{Call, insertion, evaluation, question, pulling, Answer, inserted, evaluated, questioned, pulled, callWithdraws, answerTo, mapAfter}
 
--- an insertion, an evaluation or a question; the building of all knots; the knots of a point; a ray from a point into a buffer; a direct call
+-- an insertion, an evaluation, a question or the setting of a pull; the building of all knots; the knots of a point; a ray from a point into a buffer; a direct call
 pub data MapCall : Type 0 where
   entry : Call → MapCall
   generate-knot-vectors : MapCall
@@ -50,7 +50,7 @@ unfoldable pub mapAfterAll : Float → Tmesh → List MapCall → Tmesh
 mapAfterAll e map [] = map
 mapAfterAll e map (call ∷ rest) = mapAfterAll e (afterCall e map call) rest
 
--- a list of insertions, evaluations and questions alone, and one of direct calls alone
+-- a list of insertions, evaluations, questions and settings of pulls alone, and one of direct calls alone
 unfoldable pub entries : List Call → List MapCall
 entries [] = []
 entries (call ∷ rest) = entry call ∷ entries rest
@@ -65,6 +65,7 @@ abbrev pub answerTold : Answer → Told
 answerTold (inserted answer) = insertTold answer
 answerTold (evaluated answer) = evaluationTold answer
 answerTold (questioned answer) = cellTold answer
+answerTold (pulled outcome) = outcomeTold outcome
 
 -- what a call tells
 abbrev pub toldTo : Float → Tmesh → MapCall → Told
@@ -83,6 +84,7 @@ abbrev pub listsPoint : Answer → Bool
 listsPoint (inserted answer) = isDone answer
 listsPoint (evaluated answer) = false
 listsPoint (questioned answer) = false
+listsPoint (pulled outcome) = false
 
 abbrev pub addsPoint : Float → Tmesh → MapCall → Bool
 addsPoint e map (entry call) = listsPoint (answerTo e map call)
@@ -104,9 +106,16 @@ givenMade store (navigate-until-con start travel watch) = isMade (store .made) s
 givenMade store (read-side n d) = isMade (store .made) n
 givenMade store (read-point n) = isMade (store .made) n
 
--- and whether every point that a call is given was made; an insertion asks before whether its point is listed, so it counts as given none
+-- one of the calls of a list; an insertion asks before whether its point is listed, so it counts as given none
+abbrev pub entryMade : Store → Call → Bool
+entryMade store (insertion withdraws con d ratio position) = true
+entryMade store (evaluation s t) = true
+entryMade store (question cell) = true
+entryMade store (pulling n pull) = isMade (store .made) n
+
+-- and any call on a map
 abbrev pub pointsMade : Tmesh → MapCall → Bool
-pointsMade map (entry call) = true
+pointsMade map (entry call) = entryMade (storeOf map) call
 pointsMade map generate-knot-vectors = true
 pointsMade map (point-knot-vectors n) = isMade (storeOf map .made) n
 pointsMade map (cast-ray n d buffer) = isMade (storeOf map .made) n

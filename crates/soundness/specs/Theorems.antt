@@ -1,5 +1,5 @@
 -- Theorems on lists of calls on a map: statements only, with what they speak of. The lists are every list of insertions, evaluations, questions
--- of cells, buildings of knots, rays and direct calls on a fresh map of any border weight and corners, with any closeness and any arguments, calls
+-- of cells, settings of pulls, buildings of knots, rays and direct calls on a fresh map of any border weight and corners, with any closeness and any arguments, calls
 -- refused, torn or withdrawn among them. Of the maps that they leave is said that links are mirrored and how they are counted, what is listed, that no
 -- connect of an insertion fails, and where 11 is answered; the call that is spoken of may have a closeness other than the list's.
 use Prim.Native.Nat.{ℕ, _<_, _*_}
@@ -54,7 +54,7 @@ abbrev pub EveryMapMirrored : Type 0
 EveryMapMirrored = EveryMap (λ map. Sound (storeOf map))
 
 -- ---- direct calls
--- On every map: a list of direct calls leaves the map with the store that the same list leaves of the map's store. The listing, the positions,
+-- On every map: a list of direct calls leaves the map with the store that the same list leaves of the map's store. The listing, the places,
 -- the kept knots and their index are as they were.
 abbrev pub DirectCallsOnStore : Type 0
 DirectCallsOnStore =

@@ -1,11 +1,11 @@
 -- Evaluation of a map at (s, t) (`subs`). Knots are built only if none are kept. A point's weight is the product of its two basis
--- functions; the answer is the sum of position × weight over the sum of the weights, axis by axis, each sum from +0.0 over the listed
--- points in the order of their numbers, every product, quotient and sum rounding once; and beside it the sum of the weights.
+-- functions, that product times its pull; the answer is the sum of position × weight over the sum of the weights, axis by axis, each sum
+-- from +0.0 over the listed points in the order of their numbers, every product, quotient and sum rounding once; and beside it the sum of
+-- the weights. The source has no pulls; without them it is as in Plain.antt.
 use Prim.Native.Nat.{ℕ, zero, suc, _+_}
 use mathlib.Core.Bool.{Bool, false, cond, _&&_}
 use mathlib.Core.List.{[], _∷_}
-use lib.Ieee.{Float, nan, inf, binary64, add, mul, div, lt}
-use lib.ListN.{getD}
+use lib.Ieee.{Float, inf, binary64, add, mul, div, lt}
 use Rattle.float64.specs.Literals.{zeroLiteral}
 use Rattle.basis.specs.Binary64.{binary64Arithmetic, knots}
 use Rattle.basis.specs.Formula.{formula}
@@ -15,8 +15,8 @@ use Rattle.control_point.specs.declared.refusal.Outcome.the-variants.{Done, Ref
 use Rattle.control_point.specs.declared.refusal.Refusal.the-variants.{NoWeight}
 use Rattle.grid_index.specs.Index.{knotsIn}
 use Rattle.ray.specs.declared.knots.PointKnots.{PointKnots}
-use Rattle.t_mesh.specs.Tmesh.{Axis, X, Y, Z, coordinate, isListed}
-use Rattle.t_mesh.specs.declared.t_mesh.Position.{Position}
+use Rattle.t_mesh.specs.Tmesh.{Axis, X, Y, Z, coordinate, positionOf, pullOf, isListed}
+use Rattle.t_mesh.specs.declared.t_mesh.Place.{Place}
 use Rattle.t_mesh.specs.declared.t_mesh.Tmesh.{Tmesh}
 use Rattle.knot_vectors.specs.Knots.{generateKnotVectors}
 use Rattle.knot_vectors.specs.declared.knots.Generated.{Generated}
@@ -45,35 +45,31 @@ onAxis Y value = value .y
 onAxis Z value = value .z
 
 -- ---- a point's part
--- what an element past the end is taken for; no definition looks there
-abbrev pub noPosition : Position
-noPosition = record { x = nan; y = nan; z = nan }
-
 abbrev pub knotsOf : Tmesh → ℕ → PointKnots
 knotsOf map n = knotsIn (map .knots) n
 
-abbrev pub positionOf : Tmesh → ℕ → Position
-positionOf map n = getD (map .mesh .positions) n noPosition
+-- the product at (s, t) of the two basis functions of a point's knots, and of the point
+abbrev pub basisBy : PointKnots → Float → Float → Float
+basisBy own s t = mul binary64 (formula binary64Arithmetic s (knots (own .s))) (formula binary64Arithmetic t (knots (own .t)))
 
--- the weight at (s, t) of a point's knots, and of the point
-abbrev pub weightBy : PointKnots → Float → Float → Float
-weightBy own s t = mul binary64 (formula binary64Arithmetic s (knots (own .s))) (formula binary64Arithmetic t (knots (own .t)))
+abbrev pub basisOf : Tmesh → Float → Float → ℕ → Float
+basisOf map s t n = basisBy (knotsOf map n) s t
+
+-- its weight: that product times its pull
+abbrev pub weightBy : PointKnots → Float → Float → Float → Float
+weightBy own pull s t = mul binary64 (basisBy own s t) pull
 
 abbrev pub weightOf : Tmesh → Float → Float → ℕ → Float
-weightOf map s t n = weightBy (knotsOf map n) s t
+weightOf map s t n = weightBy (knotsOf map n) (pullOf map n) s t
 
--- its coordinate on an axis times its weight
-abbrev pub shareOf : Axis → Tmesh → Float → Float → ℕ → Float
-shareOf axis map s t n = mul binary64 (coordinate axis (positionOf map n)) (weightOf map s t n)
-
--- all of a point's part, as code holds it
-abbrev pub shareBy : PointKnots → Position → Float → Float → Share
-shareBy own position s t =
+-- all of a point's part, as code holds it: its position times its weight, and its weight
+abbrev pub shareBy : PointKnots → Place → Float → Float → Share
+shareBy own place s t =
     record {
-      x = mul binary64 (position .x) (weightBy own s t);
-      y = mul binary64 (position .y) (weightBy own s t);
-      z = mul binary64 (position .z) (weightBy own s t);
-      weight = weightBy own s t;
+      x = mul binary64 (place .position .x) (weightBy own (place .pull) s t);
+      y = mul binary64 (place .position .y) (weightBy own (place .pull) s t);
+      z = mul binary64 (place .position .z) (weightBy own (place .pull) s t);
+      weight = weightBy own (place .pull) s t;
     }
 
 -- ---- the sums
@@ -85,15 +81,22 @@ sumFrom map part (suc left) n sum = sumFrom map part left (n + 1) (cond (isListe
 abbrev pub sumOf : Tmesh → (ℕ → Float) → Float
 sumOf map part = sumFrom map part 128 0 zeroLiteral
 
+-- with a weight for each number: a point's coordinate on an axis times its weight, the mean on the axis, and the value
+abbrev pub shareWith : (ℕ → Float) → Axis → Tmesh → ℕ → Float
+shareWith weight axis map n = mul binary64 (coordinate axis (positionOf map n)) (weight n)
+
+abbrev pub meanWith : (ℕ → Float) → Axis → Tmesh → Float
+meanWith weight axis map = div binary64 (sumOf map (shareWith weight axis map)) (sumOf map weight)
+
+abbrev pub valueWith : (ℕ → Float) → Tmesh → Evaluation
+valueWith weight map = record { x = meanWith weight X map; y = meanWith weight Y map; z = meanWith weight Z map; weight = sumOf map weight }
+
+-- the weights by the knots kept, summed; and the value by them
 abbrev pub totalWeight : Tmesh → Float → Float → Float
 totalWeight map s t = sumOf map (weightOf map s t)
 
-abbrev pub meanOn : Axis → Tmesh → Float → Float → Float
-meanOn axis map s t = div binary64 (sumOf map (shareOf axis map s t)) (totalWeight map s t)
-
--- the value by the knots kept
 unfoldable pub valueOf : Tmesh → Float → Float → Evaluation
-valueOf map s t = record { x = meanOn X map s t; y = meanOn Y map s t; z = meanOn Z map s t; weight = totalWeight map s t }
+valueOf map s t = valueWith (weightOf map s t) map
 
 -- ---- `subs`
 -- the value, or why there are no knots

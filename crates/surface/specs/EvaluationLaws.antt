@@ -1,19 +1,20 @@
 -- Laws of evaluation: a sum that stands at a number is the whole sum once the rest is added, whatever its parts are; the four sums of an
--- evaluation stand together; the map by whose knots it is; what its tables say; and 1.0 / 0.0.
-use Prim.Native.Nat.{ℕ, suc, _+_, _-_, _<_}
+-- evaluation stand together; maps that agree at their listed points have one value; the map by whose knots it is; and what its tables say.
+use Prim.Native.Nat.{ℕ, zero, suc, _+_, _-_, _<_}
 use mathlib.Core.Path.{_≡_, refl, ap, _∙_}
 use mathlib.Core.Bool.{Bool, true, false, cond}
 use native.Mathlib.Omega.{arith}
-use lib.Ieee.{Float, inf, binary64, ofBits, ofFields, add, div}
-use Rattle.float64.specs.Literals.{zeroLiteral, oneLiteral}
+use lib.Ieee.{Float, binary64, add, mul, div}
+use Rattle.float64.specs.Literals.{zeroLiteral}
 use Rattle.control_point.specs.declared.refusal.Outcome.{Outcome}
 use Rattle.control_point.specs.Told.{Told, unless, refusedOr}
 use Rattle.control_point.specs.declared.refusal.Outcome.the-variants.{Done, Refused}
 use Rattle.control_point.specs.declared.refusal.Refusal.the-variants.{NoWeight}
-use Rattle.t_mesh.specs.Tmesh.{X, Y, Z, isListed}
+use Rattle.t_mesh.specs.Tmesh.{Axis, X, Y, Z, coordinate, placeOf, positionOf, isListed}
+use Rattle.t_mesh.specs.declared.t_mesh.Position.{Position}
 use Rattle.t_mesh.specs.declared.t_mesh.Tmesh.{Tmesh}
-use Rattle.surface.specs.Evaluation.{knotsOf, positionOf, weightOf, shareOf, shareBy, sumFrom, sumOf, valueTold, evaluationTold, valueOf, answerBy, evaluatedBy, withKnots, withKnotsTable, subsOf, subsTable, weighty, setPoint, setPointTable}
-use Rattle.knot_vectors.specs.Knots.{generateKnotVectors}
+use Rattle.surface.specs.Evaluation.{knotsOf, weightOf, shareBy, sumFrom, sumOf, shareWith, valueWith, valueTold, evaluationTold, valueOf, answerBy, evaluatedBy, withKnots, withKnotsTable, subsOf, subsTable, weighty, setPoint, setPointTable}
+use Rattle.knot_vectors.specs.Knots.{AllKnots, all, none, allKnots, keeping, generateKnotVectors}
 use Rattle.surface.specs.declared.evaluation.Evaluation.{Evaluation}
 use Rattle.surface.specs.declared.evaluation.EvaluationAnswer.{EvaluationAnswer}
 use Rattle.surface.specs.declared.evaluation.EvaluationAnswer.the-variants.{Is, Refused as NoValue}
@@ -49,9 +50,9 @@ module _ (map : Tmesh) (part : ℕ → Float) where
 
 -- ---- the four sums of an evaluation
 pub record Sums (map : Tmesh) (s t : Float) (n : ℕ) (x y z weight : Float) : Type 0 where
-  pub on-x : Standing map (shareOf X map s t) n x
-  pub on-y : Standing map (shareOf Y map s t) n y
-  pub on-z : Standing map (shareOf Z map s t) n z
+  pub on-x : Standing map (shareWith (weightOf map s t) X map) n x
+  pub on-y : Standing map (shareWith (weightOf map s t) Y map) n y
+  pub on-z : Standing map (shareWith (weightOf map s t) Z map) n z
   pub of-weight : Standing map (weightOf map s t) n weight
 
 module _ (map : Tmesh) (s t : Float) where
@@ -63,35 +64,78 @@ module _ (map : Tmesh) (s t : Float) where
   unfolding valueOf
   sums-end n x y z weight h sums =
       rw (
-        standing-end map (shareOf X map s t) n x h (sums .on-x),
-        standing-end map (shareOf Y map s t) n y h (sums .on-y),
-        standing-end map (shareOf Z map s t) n z h (sums .on-z),
+        standing-end map (shareWith (weightOf map s t) X map) n x h (sums .on-x),
+        standing-end map (shareWith (weightOf map s t) Y map) n y h (sums .on-y),
+        standing-end map (shareWith (weightOf map s t) Z map) n z h (sums .on-z),
         standing-end map (weightOf map s t) n weight h (sums .of-weight),
       )
 
   module _ (n : ℕ) (x y z weight x′ y′ z′ weight′ : Float) (h : n < 128) (sums : Sums map s t n x y z weight) where
-    pub sums-added : (share : Share) → isListed map n ≡ true → share ≡ shareBy (knotsOf map n) (positionOf map n) s t
+    pub sums-added : (share : Share) → isListed map n ≡ true → share ≡ shareBy (knotsOf map n) (placeOf map n) s t
         → x′ ≡ add binary64 x (share .x) → y′ ≡ add binary64 y (share .y) → z′ ≡ add binary64 z (share .z) → weight′ ≡ add binary64 weight (share .weight)
         → Sums map s t (n + 1) x′ y′ z′ weight′
     sums-added share l k a b c d =
         record {
-          on-x = standing-added map (shareOf X map s t) n x x′ h (sums .on-x) (share .x) l (ap (λ (p : Share). p .x) k) a;
-          on-y = standing-added map (shareOf Y map s t) n y y′ h (sums .on-y) (share .y) l (ap (λ (p : Share). p .y) k) b;
-          on-z = standing-added map (shareOf Z map s t) n z z′ h (sums .on-z) (share .z) l (ap (λ (p : Share). p .z) k) c;
+          on-x = standing-added map (shareWith (weightOf map s t) X map) n x x′ h (sums .on-x) (share .x) l (ap (λ (p : Share). p .x) k) a;
+          on-y = standing-added map (shareWith (weightOf map s t) Y map) n y y′ h (sums .on-y) (share .y) l (ap (λ (p : Share). p .y) k) b;
+          on-z = standing-added map (shareWith (weightOf map s t) Z map) n z z′ h (sums .on-z) (share .z) l (ap (λ (p : Share). p .z) k) c;
           of-weight = standing-added map (weightOf map s t) n weight weight′ h (sums .of-weight) (share .weight) l (ap (λ (p : Share). p .weight) k) d;
         }
 
     pub sums-passed : isListed map n ≡ false → x′ ≡ x → y′ ≡ y → z′ ≡ z → weight′ ≡ weight → Sums map s t (n + 1) x′ y′ z′ weight′
     sums-passed l a b c d =
         record {
-          on-x = standing-passed map (shareOf X map s t) n x x′ h (sums .on-x) l a;
-          on-y = standing-passed map (shareOf Y map s t) n y y′ h (sums .on-y) l b;
-          on-z = standing-passed map (shareOf Z map s t) n z z′ h (sums .on-z) l c;
+          on-x = standing-passed map (shareWith (weightOf map s t) X map) n x x′ h (sums .on-x) l a;
+          on-y = standing-passed map (shareWith (weightOf map s t) Y map) n y y′ h (sums .on-y) l b;
+          on-z = standing-passed map (shareWith (weightOf map s t) Z map) n z z′ h (sums .on-z) l c;
           of-weight = standing-passed map (weightOf map s t) n weight weight′ h (sums .of-weight) l d;
         }
 
+-- ---- two maps of one listing, with weights that agree at each listed number
+module _ (one other : Tmesh) (same-listing : (n : ℕ) → n < 128 → isListed one n ≡ isListed other n) where
+  sums-alike : (part own : ℕ → Float) → ((n : ℕ) → n < 128 → isListed one n ≡ true → part n ≡ own n) → (left n : ℕ) (sum : Float) → n + left ≡ 128
+      → sumFrom one part left n sum ≡ sumFrom other own left n sum
+  unfolding sumFrom
+  sums-alike part own same zero n sum e = refl
+  sums-alike part own same (suc left) n sum e =
+      ap (sumFrom one part left (n + 1))
+      (by-test (isListed one n) (λ listed. same n (omega (arith, e)) listed)
+      ∙ ap (λ (b : Bool). cond b (add binary64 sum (own n)) sum) (same-listing n (omega (arith, e))))
+      ∙ sums-alike part own same left (n + 1) (cond (isListed other n) (add binary64 sum (own n)) sum) (omega (arith, e))
+    where
+      by-test : (b : Bool) → (b ≡ true → part n ≡ own n) → cond b (add binary64 sum (part n)) sum ≡ cond b (add binary64 sum (own n)) sum
+      by-test true h = ap (add binary64 sum) (h refl)
+      by-test false h = refl
+
+  module _ (weight own : ℕ → Float) (same : (n : ℕ) → n < 128 → isListed one n ≡ true → weight n ≡ own n) where
+    pub total-alike : sumOf one weight ≡ sumOf other own
+    total-alike = sums-alike weight own same 128 0 zeroLiteral refl
+
+    -- and positions that agree there too
+    module _ (there : (n : ℕ) → n < 128 → isListed one n ≡ true → positionOf one n ≡ positionOf other n) where
+      share-alike : (axis : Axis) → sumOf one (shareWith weight axis one) ≡ sumOf other (shareWith own axis other)
+      share-alike axis =
+          sums-alike (shareWith weight axis one) (shareWith own axis other)
+          (λ n h listed.
+          ap (λ (position : Position). mul binary64 (coordinate axis position) (weight n)) (there n h listed)
+          ∙ ap (mul binary64 (coordinate axis (positionOf other n))) (same n h listed))
+          128 0 zeroLiteral refl
+
+      pub value-alike : valueWith weight one ≡ valueWith own other
+      value-alike = rw (share-alike X, share-alike Y, share-alike Z, total-alike)
+
 -- ---- the map by whose knots it is
 module _ (e : Float) (map : Tmesh) where
+  -- it has the mesh of the map
+  pub ready-mesh : withKnots e map .map .mesh ≡ map .mesh
+  unfolding withKnots generateKnotVectors
+  ready-mesh = by-test (map .kept) (allKnots e map)
+    where
+      by-test : (b : Bool) (rows : AllKnots) → cond b (record { outcome = Done; map = map }) (keeping map rows) .map .mesh ≡ map .mesh
+      by-test true rows = refl
+      by-test false (all rows) = refl
+      by-test false (none refusal) = refl
+
   module _ (outcome : Outcome) (ready : Tmesh) where
     pub ready-kept : map .kept ≡ true → outcome ≡ Done → ready ≡ map → record { outcome = outcome; map = ready } ≡ withKnots e map
     unfolding withKnots
@@ -107,11 +151,6 @@ module _ (e : Float) (map : Tmesh) where
       → record { answer = answer; map = ready } ≡ subsOf e map s t
   unfolding subsOf
   evaluated-ready s t outcome ready value answer h v a = rw (a, v) (ap (λ (x : Generated). evaluatedBy (x .outcome) (x .map) s t) h)
-
--- ---- the infinity, as code writes it
-pub infinity : div binary64 oneLiteral zeroLiteral ≡ inf false
-unfolding ofBits ofFields div
-infinity = refl
 
 -- ---- both tell what their tables say
 -- what is told of the knots kept or built, or else of the refusal, is the table of what wants knots

@@ -1,2 +1,4 @@
 pub mod Evaluation
 pub mod EvaluationLaws
+pub mod Plain
+pub mod PlainProof

@@ -1,6 +1,6 @@
--- Insertion into a map. Refused, the map is as it was. Torn, the mesh keeps all that was done, p stands there with its position and is not listed, and the kept
+-- Insertion into a map. Refused, the map is as it was. Torn, the mesh keeps all that was done, p stands there with its position and a pull of 1.0 and is not listed, and the kept
 -- knots and their index are kept. Done, p is listed and both are dropped. So it is in the source (`add_control_point`). By the rule that withdraws torn
--- insertions (`add_or_withdraw`) a torn one leaves the map as it was: the sides, the coordinates, the positions, the listing, the kept knots and their index.
+-- insertions (`add_or_withdraw`) a torn one leaves the map as it was: the sides, the coordinates, the places, the listing, the kept knots and their index.
 use Prim.Native.Nat.{ℕ}
 use mathlib.Core.Bool.{Bool, false, cond}
 use lib.Ieee.{Float}
@@ -12,7 +12,7 @@ use Rattle.insertion.specs.declared.insertion.Inserted.{Inserted}
 use Rattle.insertion.specs.declared.insertion.InsertAnswer.{InsertAnswer}
 use Rattle.insertion.specs.declared.insertion.InsertAnswer.the-variants.{Done, Torn, Refused}
 use Rattle.store.specs.declared.store.Store.{Store}
-use Rattle.t_mesh.specs.Tmesh.{meshStore, storeOf, listedIn, isListed}
+use Rattle.t_mesh.specs.Tmesh.{unpulled, meshStore, storeOf, listedIn, isListed}
 use Rattle.t_mesh.specs.declared.t_mesh.Position.{Position}
 use Rattle.t_mesh.specs.declared.t_mesh.Mesh.{Mesh}
 use Rattle.t_mesh.specs.declared.t_mesh.Tmesh.{Tmesh}
@@ -23,7 +23,7 @@ use Rattle.t_mesh.specs.declared.add.InsertedMesh.{InsertedMesh}
 -- with the store after an insertion, which made the point n at a position and lists it or not
 abbrev pub withPlaced : Mesh → Store → ℕ → Position → Bool → Mesh
 withPlaced mesh store n position listed =
-    record { points = store .points; made = store .made; positions = set (mesh .positions) n position; listed = set (mesh .listed) n listed }
+    record { points = store .points; made = store .made; places = set (mesh .places) n (unpulled position); listed = set (mesh .listed) n listed }
 
 -- after an insertion, by its answer and the store that it left
 abbrev pub meshAfter : Mesh → Position → InsertAnswer → Store → Mesh

@@ -1,10 +1,10 @@
--- The map. A position is three floats. Positions stand beside the points, since nothing but evaluation reads them: nothing of a mesh's
--- shape can depend on them. A point is listed once its insertion is done; the listing's order is that of the numbers. One flag says whether
+-- The map. A position is three floats; a point's place is its position and its pull, by which an evaluation multiplies its weight. Places stand
+-- beside the points, since nothing but evaluation reads them: nothing of a mesh's shape can depend on them. A point is listed once its insertion is done; the listing's order is that of the numbers. One flag says whether
 -- the knots of the listed points, and the index that is built from them, are kept.
 use Prim.Native.Nat.{ℕ}
 use mathlib.Core.Bool.{Bool, true, false}
 use mathlib.Core.List.{List, [], _∷_, _++_}
-use lib.Ieee.{Float}
+use lib.Ieee.{Float, nan}
 use lib.ListN.{getD, replicate}
 use Rattle.float64.specs.Literals.{zeroLiteral, oneLiteral}
 use Rattle.control_point.specs.Point.{loosePoint}
@@ -15,6 +15,7 @@ use Rattle.grid_index.specs.declared.Index.{Index}
 use Rattle.ray.specs.declared.knots.PointKnots.{PointKnots}
 use Rattle.store.specs.declared.store.Store.{Store}
 use Rattle.t_mesh.specs.declared.t_mesh.Mesh.{Mesh}
+use Rattle.t_mesh.specs.declared.t_mesh.Place.{Place}
 use Rattle.t_mesh.specs.declared.t_mesh.Position.{Position}
 use Rattle.t_mesh.specs.declared.t_mesh.Tmesh.{Tmesh}
 
@@ -27,6 +28,29 @@ coordinate X p = p .x
 coordinate Y p = p .y
 coordinate Z p = p .z
 
+-- ---- places
+-- where a point is made: its pull is 1.0
+abbrev pub unpulled : Position → Place
+unpulled position = record { position = position; pull = oneLiteral }
+
+-- what an element past the end is taken for; no definition looks there
+abbrev pub noPosition : Position
+noPosition = record { x = nan; y = nan; z = nan }
+
+abbrev pub noPlace : Place
+noPlace = unpulled noPosition
+
+-- a point's
+abbrev pub placeOf : Tmesh → ℕ → Place
+placeOf map n = getD (map .mesh .places) n noPlace
+
+abbrev pub positionOf : Tmesh → ℕ → Position
+positionOf map n = placeOf map n .position
+
+abbrev pub pullOf : Tmesh → ℕ → Float
+pullOf map n = placeOf map n .pull
+
+-- ---- the store and the listing
 -- the store of a mesh, and of a map
 abbrev pub meshStore : Mesh → Store
 meshStore mesh = record { points = mesh .points; made = mesh .made }
@@ -34,11 +58,11 @@ meshStore mesh = record { points = mesh .points; made = mesh .made }
 abbrev pub storeOf : Tmesh → Store
 storeOf map = meshStore (map .mesh)
 
--- with another store, the listing, the positions, the knots kept and their index as they are
+-- with another store, the listing, the places, the knots kept and their index as they are
 abbrev pub withStore : Tmesh → Store → Tmesh
 withStore map store =
     record {
-      mesh = record { points = store .points; made = store .made; positions = map .mesh .positions; listed = map .mesh .listed };
+      mesh = record { points = store .points; made = store .made; places = map .mesh .places; listed = map .mesh .listed };
       kept = map .kept;
       knots = map .knots;
       index = map .index;
@@ -79,14 +103,14 @@ blankKnots = record { s = replicate 5 zeroLiteral; t = replicate 5 zeroLiteral }
 abbrev pub blankIndex : Index
 blankIndex = record { first = replicate 256 0; second = replicate 256 0 }
 
--- the map of a border weight and four corners: no knots and no index are kept
+-- the map of a border weight and four corners: every pull is 1.0, and no knots and no index are kept
 unfoldable pub newTmesh : Float → Position → Position → Position → Position → Tmesh
 newTmesh weight bottomLeft bottomRight topRight topLeft =
     record {
       mesh = record {
         points = cornerStore weight .points;
         made = cornerStore weight .made;
-        positions = bottomLeft ∷ (bottomRight ∷ (topRight ∷ (topLeft ∷ replicate 124 origin)));
+        places = unpulled bottomLeft ∷ (unpulled bottomRight ∷ (unpulled topRight ∷ (unpulled topLeft ∷ replicate 124 (unpulled origin))));
         listed = true ∷ (true ∷ (true ∷ (true ∷ replicate 124 false)));
       };
       kept = false;

@@ -1,6 +1,6 @@
 // The map and its parts.
 ghost use mathlib.Core.Path.{_≡_};
-ghost use Rattle.t_mesh.specs.Tmesh.{meshStore, withStore, corner, corners, cornerStore, listedIn, newTmesh};
+ghost use Rattle.t_mesh.specs.Tmesh.{unpulled, meshStore, withStore, corner, corners, cornerStore, listedIn, newTmesh};
 use control_point::t_mesh_control_point::Side;
 use control_point::t_mesh_control_point::TmeshControlPoint;
 use control_point::t_mesh_control_point::loose_point;
@@ -14,11 +14,17 @@ pub struct Position {
     pub z: f64,
 }
 
-// The points and how many are made, as in a store; their positions; which of them are listed.
+// Where a point stands, and how hard it pulls: its weight in an evaluation is multiplied by its pull.
+pub struct Place {
+    pub position: Position,
+    pub pull: f64,
+}
+
+// The points and how many are made, as in a store; their places; which of them are listed.
 pub struct Mesh {
     pub points: [TmeshControlPoint; 128],
     pub made: u8,
-    pub positions: [Position; 128],
+    pub places: [Place; 128],
     pub listed: [bool; 128],
 }
 
@@ -28,6 +34,16 @@ pub struct Tmesh {
     pub kept: bool,
     pub knots: [PointKnots; 128],
     pub index: Index,
+}
+
+// The place of a point when it is made.
+pub fn unpulled(position: Position) -> Place
+    ensures { λ r. ⌜ r ≡ unpulled position ⌝ }
+{
+    Place {
+        position,
+        pull: 1.0,
+    }
 }
 
 // The store of a mesh, for the calls that take one.
@@ -41,17 +57,17 @@ pub fn store_of(mesh: Mesh) -> Store
     }
 }
 
-// A map with the store that a direct call left; its listing, its positions, its kept knots and their index are as they were.
+// A map with the store that a direct call left; its listing, its positions and pulls, its kept knots and their index are as they were.
 pub fn with_store(mut map: Tmesh, store: Store) -> Tmesh
     ensures { λ r. ⌜ r ≡ withStore map store ⌝ }
 {
     let points = store.points;
-    let positions = map.mesh.positions;
+    let places = map.mesh.places;
     let listed = map.mesh.listed;
     let mesh = Mesh {
         points,
         made: store.made,
-        positions,
+        places,
         listed,
     };
     map.mesh = mesh;
@@ -144,15 +160,16 @@ impl Tmesh {
     {
         let store = corner_store(weight);
         let points = store.points;
-        let mut positions = [Position {
+        let origin = Position {
             x: 0.0,
             y: 0.0,
             z: 0.0,
-        }; 128];
-        positions[0] = bottom_left;
-        positions[1] = bottom_right;
-        positions[2] = top_right;
-        positions[3] = top_left;
+        };
+        let mut places = [unpulled(origin); 128];
+        places[0] = unpulled(bottom_left);
+        places[1] = unpulled(bottom_right);
+        places[2] = unpulled(top_right);
+        places[3] = unpulled(top_left);
         let mut listed = [false; 128];
         listed[0] = true;
         listed[1] = true;
@@ -166,7 +183,7 @@ impl Tmesh {
             mesh: Mesh {
                 points,
                 made: store.made,
-                positions,
+                places,
                 listed,
             },
             kept: false,

@@ -6,10 +6,10 @@ use Rattle.bench_host.proofs.bench_lent_evaluations.Statement.{statemen
 use Rattle.bench_host.proofs.bench_lent_evaluations.Tie as tie
 
 abbrev Inv-loop : tie.InvT-loop
-Inv-loop edits repeats across upwards positions listed s₀ sum₀ turn₀ s sum turn = turn ≤ repeats
+Inv-loop edits repeats across upwards places listed s₀ sum₀ turn₀ s sum turn = turn ≤ repeats
 
 abbrev μ-loop : tie.MeasureT-loop
-μ-loop edits repeats across upwards positions listed s₀ sum₀ turn₀ s sum turn = repeats - turn
+μ-loop edits repeats across upwards places listed s₀ sum₀ turn₀ s sum turn = repeats - turn
 
 map-of-requires : tie.Need-map-of-requires Inv-loop μ-loop
 map-of-requires c κs = search needs

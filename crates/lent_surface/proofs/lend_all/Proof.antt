@@ -5,21 +5,22 @@ use mathlib.Core.Path.{_≡_, sym, _∙_}
 use native.Mathlib.Omega.{arith}
 use borrow.Author.Needs.{needs}
 use lib.ListN.{length-map}
-use Rattle.lent_mesh.specs.LentMesh.{rowOf}
+use Rattle.t_mesh.specs.Tmesh.{noPlace, placeOf}
 use Rattle.values.specs.ValuesLaws.{StoredTo, stored-none, stored-more}
-use Rattle.surface.specs.Evaluation.{knotsOf, positionOf, noPosition}
+use Rattle.surface.specs.Evaluation.{knotsOf}
+use Rattle.lent_surface.specs.Lent.{placeRow}
 use Rattle.lent_surface.specs.LentLaws.{all-lent}
 use Rattle.lent_surface.proofs.lend_all.Statement.{statement}
 use Rattle.lent_surface.proofs.lend_all.Tie as tie
 
 abbrev Inv-loop : tie.InvT-loop
-Inv-loop across₀ upwards₀ positions₀ listed map places n₀ across upwards positions n =
+Inv-loop across₀ upwards₀ places₀ listed map own n₀ across upwards places n =
     (n ≤ 128)
     × (StoredTo (λ (m : ℕ). knotsOf map m .s) [] 128 n across
-    × (StoredTo (λ (m : ℕ). knotsOf map m .t) [] 128 n upwards × StoredTo (λ (m : ℕ). rowOf (positionOf map m)) (rowOf noPosition) 128 n positions))
+    × (StoredTo (λ (m : ℕ). knotsOf map m .t) [] 128 n upwards × StoredTo (λ (m : ℕ). placeRow (placeOf map m)) (placeRow noPlace) 128 n places))
 
 abbrev μ-loop : tie.MeasureT-loop
-μ-loop across₀ upwards₀ positions₀ listed map places n₀ across upwards positions n = 128 - n
+μ-loop across₀ upwards₀ places₀ listed map own n₀ across upwards places n = 128 - n
 
 loop-holds : tie.Need-loop-holds Inv-loop μ-loop
 loop-holds c =
@@ -58,7 +59,7 @@ loop-again c =
         stored-more (λ (m : ℕ). knotsOf map m .s) [] 128 (k .n) (k .across) _ (omega arith) (e .0) (k .inv .1 .0),
         (
           stored-more (λ (m : ℕ). knotsOf map m .t) [] 128 (k .n) (k .upwards) _ (omega arith) (e .1 .0) (k .inv .1 .1 .0),
-          stored-more (λ (m : ℕ). rowOf (positionOf map m)) (rowOf noPosition) 128 (k .n) (k .positions) _ (omega arith) (e .1 .1) (k .inv .1 .1 .1),
+          stored-more (λ (m : ℕ). placeRow (placeOf map m)) (placeRow noPlace) 128 (k .n) (k .places) _ (omega arith) (e .1 .1) (k .inv .1 .1 .1),
         ),
       ),
     )
@@ -70,9 +71,9 @@ returns c =
     let g = l .before .before .before .good .1 .1 .1 .1 .0 in
     let k = l .loop in
     let h : k .n ≡ 128 = omega arith in
-    all-lent own (k .n) (k .across) (k .upwards) (k .positions) h
+    all-lent own (k .n) (k .across) (k .upwards) (k .places) h
     (sym (length-map (own .knots) _) ∙ g .1 .1 .1 .1 .0 .1 .0 .1)
-    (sym (length-map (own .mesh .positions) _) ∙ g .1 .1 .0 .1 .1 .1 .1 .0 .1 .0 .1)
+    (sym (length-map (own .mesh .places) _) ∙ g .1 .1 .0 .1 .1 .1 .1 .0 .1 .0 .1)
     (k .inv .1 .0) (k .inv .1 .1 .0) (k .inv .1 .1 .1)
 
 pub lend-all-spec : {M : Type 1} → statement M

@@ -1,4 +1,4 @@
--- `lent_share` meets its contract: the weight is the product of the two basis functions.
+-- `lent_share` meets its contract: the weight is the product of the two basis functions, times the pull.
 use borrow.Author.Needs.{needs}
 use Rattle.lent_surface.proofs.lent_share.Statement.{statement}
 use Rattle.lent_surface.proofs.lent_share.Tie as tie

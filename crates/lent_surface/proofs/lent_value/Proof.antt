@@ -12,15 +12,15 @@ use Rattle.lent_surface.proofs.lent_value.Statement.{statement}
 use Rattle.lent_surface.proofs.lent_value.Tie as tie
 
 abbrev Inv-loop : tie.InvT-loop
-Inv-loop across upwards positions listed s t x₀ y₀ z₀ weight₀ n₀ x y z weight n = (n ≤ 128) × Sums (heldMap across upwards positions listed) s t n x y z weight
+Inv-loop across upwards places listed s t x₀ y₀ z₀ weight₀ n₀ x y z weight n = (n ≤ 128) × Sums (heldMap across upwards places listed) s t n x y z weight
 
 abbrev μ-loop : tie.MeasureT-loop
-μ-loop across upwards positions listed s t x₀ y₀ z₀ weight₀ n₀ x y z weight n = 128 - n
+μ-loop across upwards places listed s t x₀ y₀ z₀ weight₀ n₀ x y z weight n = 128 - n
 
 loop-holds : tie.Need-loop-holds Inv-loop μ-loop
 loop-holds c =
     let a = c .args in
-    (omega arith, sums-start (heldMap (now (a .across)) (now (a .upwards)) (now (a .positions)) (now (a .listed))) (a .s) (a .t))
+    (omega arith, sums-start (heldMap (now (a .across)) (now (a .upwards)) (now (a .places)) (now (a .listed))) (a .s) (a .t))
 
 element-copy-out-if1 : tie.Need-element-copy-out-if1 Inv-loop μ-loop
 element-copy-out-if1 c = search needs
@@ -38,7 +38,7 @@ loop-again : tie.Need-loop-again Inv-loop μ-loop
 loop-again c =
     let l = c .before .before .before in
     let a = l .before .args in
-    let m = heldMap (now (a .across)) (now (a .upwards)) (now (a .positions)) (now (a .listed)) in
+    let m = heldMap (now (a .across)) (now (a .upwards)) (now (a .places)) (now (a .listed)) in
     let k = l .loop in
     let o = c .if1 in
     let h : k .n < 128 = omega arith in (
@@ -47,7 +47,7 @@ loop-again c =
           (λ w.
           sums-added m (a .s) (a .t) (k .n) (k .x) (k .y) (k .z) (k .weight) (o .x) (o .y) (o .z) (o .weight) h (k .inv .1)
           (w .1 .result) (w .0 .taken)
-          (held-share (now (a .across)) (now (a .upwards)) (now (a .positions)) (now (a .listed)) (k .n) h (a .s) (a .t) (w .1 .result) (w .1 .ensures))
+          (held-share (now (a .across)) (now (a .upwards)) (now (a .places)) (now (a .listed)) (k .n) h (a .s) (a .t) (w .1 .result) (w .1 .ensures))
           (w .6) (w .7) (w .8) (w .9))
           (λ w.
           sums-passed m (a .s) (a .t) (k .n) (k .x) (k .y) (k .z) (k .weight) (o .x) (o .y) (o .z) (o .weight) h (k .inv .1)
@@ -61,7 +61,7 @@ returns c =
     let a = l .before .args in
     let k = l .loop in
     let h : k .n ≡ 128 = omega arith in
-    sums-end (heldMap (now (a .across)) (now (a .upwards)) (now (a .positions)) (now (a .listed))) (a .s) (a .t)
+    sums-end (heldMap (now (a .across)) (now (a .upwards)) (now (a .places)) (now (a .listed))) (a .s) (a .t)
     (k .n) (k .x) (k .y) (k .z) (k .weight) h (k .inv .1)
 
 pub lent-value-spec : {M : Type 1} → statement M

@@ -1,5 +1,5 @@
 -- `is_weighty` meets its contract: each return picks its case by the first test, and 1.0 / 0.0 is the infinity.
-use Rattle.surface.specs.EvaluationLaws.{infinity}
+use Rattle.float64.specs.BitsLaws.{infinity}
 use Rattle.evaluation.proofs.evaluation.is_weighty.Statement.{statement}
 use Rattle.evaluation.proofs.evaluation.is_weighty.Tie as tie
 

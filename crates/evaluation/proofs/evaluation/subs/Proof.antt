@@ -14,10 +14,10 @@ use Rattle.evaluation.proofs.evaluation.subs.Statement.{statement}
 use Rattle.evaluation.proofs.evaluation.subs.Tie as tie
 
 abbrev Inv-loop : tie.InvT-loop
-Inv-loop s t map outcome listed positions x₀ y₀ z₀ weight₀ n₀ x y z weight n = (n ≤ 128) × Sums map s t n x y z weight
+Inv-loop s t map outcome listed places x₀ y₀ z₀ weight₀ n₀ x y z weight n = (n ≤ 128) × Sums map s t n x y z weight
 
 abbrev μ-loop : tie.MeasureT-loop
-μ-loop s t map outcome listed positions x₀ y₀ z₀ weight₀ n₀ x y z weight n = 128 - n
+μ-loop s t map outcome listed places x₀ y₀ z₀ weight₀ n₀ x y z weight n = 128 - n
 
 generate-knot-vectors-requires : tie.Need-generate-knot-vectors-requires Inv-loop μ-loop
 generate-knot-vectors-requires c κs = search needs

@@ -7,17 +7,17 @@ use Rattle.t_mesh.proofs.t_mesh.Tmesh.new.Tie as tie
 corner-store-requires : tie.Need-corner-store-requires
 corner-store-requires c κs = search needs
 
-array-set-from-positions : tie.Need-array-set-from-positions
-array-set-from-positions c = search needs
+array-set-from-places : tie.Need-array-set-from-places
+array-set-from-places c = search needs
 
-array-set-from-positions-2 : tie.Need-array-set-from-positions-2
-array-set-from-positions-2 c = search needs
+array-set-from-places-2 : tie.Need-array-set-from-places-2
+array-set-from-places-2 c = search needs
 
-array-set-from-positions-3 : tie.Need-array-set-from-positions-3
-array-set-from-positions-3 c = search needs
+array-set-from-places-3 : tie.Need-array-set-from-places-3
+array-set-from-places-3 c = search needs
 
-array-set-from-positions-4 : tie.Need-array-set-from-positions-4
-array-set-from-positions-4 c = search needs
+array-set-from-places-4 : tie.Need-array-set-from-places-4
+array-set-from-places-4 c = search needs
 
 array-write-listed : tie.Need-array-write-listed
 array-write-listed c = search needs
@@ -40,10 +40,10 @@ new-spec =
     tie.close
     (tie.spec
     corner-store-requires
-    array-set-from-positions
-    array-set-from-positions-2
-    array-set-from-positions-3
-    array-set-from-positions-4
+    array-set-from-places
+    array-set-from-places-2
+    array-set-from-places-3
+    array-set-from-places-4
     array-write-listed
     array-write-listed-2
     array-write-listed-3

@@ -1,25 +1,25 @@
--- `packed_positions` meets its contract: the positions below n stand in the array.
+-- `packed_places` meets its contract: the places below n stand in the array.
 use Prim.Native.Nat.{_≤_, _-_}
 use mathlib.Core.Path.{_≡_, ap}
 use native.Mathlib.Omega.{arith}
 use borrow.Author.Needs.{needs}
 use denote.Ref.{now}
 use lib.ListN.{length-replicate, set}
-use Rattle.t_mesh.specs.Tmesh.{origin}
-use Rattle.t_mesh.specs.declared.t_mesh.Position.{Position}
-use Rattle.lent_mesh.specs.LentMesh.{lentPosition}
+use Rattle.t_mesh.specs.Tmesh.{noPlace}
+use Rattle.t_mesh.specs.declared.t_mesh.Place.{Place}
+use Rattle.lent_mesh.specs.LentMesh.{unpulledAt}
 use Rattle.values.specs.ValuesLaws.{StoredTo, stored-none, stored-more, stored-all}
-use Rattle.packed_map.proofs.packed_positions.Statement.{statement}
-use Rattle.packed_map.proofs.packed_positions.Tie as tie
+use Rattle.packed_map.proofs.packed_places.Statement.{statement}
+use Rattle.packed_map.proofs.packed_places.Tie as tie
 
 abbrev Inv-loop : tie.InvT-loop
-Inv-loop positions places₀ n₀ places n = (n ≤ 128) × StoredTo (lentPosition positions) origin 128 n places
+Inv-loop positions places₀ n₀ places n = (n ≤ 128) × StoredTo (unpulledAt positions) noPlace 128 n places
 
 abbrev μ-loop : tie.MeasureT-loop
 μ-loop positions places₀ n₀ places n = 128 - n
 
 loop-holds : tie.Need-loop-holds Inv-loop μ-loop
-loop-holds c = (omega arith, stored-none (lentPosition (now (c .args .positions))) origin 128 _ (length-replicate {A = Position} 128 origin))
+loop-holds c = (omega arith, stored-none (unpulledAt (now (c .args .positions))) noPlace 128 _ (length-replicate {A = Place} 128 _))
 
 lent-position-requires : tie.Need-lent-position-requires Inv-loop μ-loop
 lent-position-requires c κs = search needs
@@ -43,16 +43,16 @@ loop-again : tie.Need-loop-again Inv-loop μ-loop
 loop-again c =
     let l = c .before .before in
     let positions = now (l .before .args .positions) in
-    (omega arith, stored-more (lentPosition positions) origin 128 (l .loop .n) (l .loop .places) _ (omega arith) (ap (set (l .loop .places) (l .loop .n)) (c .lent-position .ensures)) (l .loop .inv .1))
+    (omega arith, stored-more (unpulledAt positions) noPlace 128 (l .loop .n) (l .loop .places) _ (omega arith) (ap (set (l .loop .places) (l .loop .n)) (c .lent-position .ensures)) (l .loop .inv .1))
 
 returns : tie.Need-returns Inv-loop μ-loop
 returns c =
     let l = c .before in
     let all : l .loop .n ≡ 128 = omega arith in
-    stored-all (lentPosition (now (l .before .args .positions))) origin 128 (l .loop .n) (l .loop .places) all (l .loop .inv .1)
+    stored-all (unpulledAt (now (l .before .args .positions))) noPlace 128 (l .loop .n) (l .loop .places) all (l .loop .inv .1)
 
-pub packed-positions-spec : {M : Type 1} → statement M
-packed-positions-spec =
+pub packed-places-spec : {M : Type 1} → statement M
+packed-places-spec =
     tie.close
     (tie.spec
     Inv-loop

@@ -1,0 +1,2 @@
+pub mod Pull
+pub mod PullLaws

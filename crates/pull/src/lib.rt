@@ -1,0 +1,57 @@
+// The call that sets a point's pull.
+ghost use mathlib.Core.Path.{_≡_};
+ghost use Rattle.control_point.specs.Told.{outcomeTold};
+ghost use Rattle.pull.specs.Pull.{canPull, repulled, setPull, pullTable};
+use control_point::refusal::Outcome;
+use control_point::refusal::Refusal;
+use control_point::t_mesh_control_point::is_made;
+use t_mesh::t_mesh::Place;
+use t_mesh::t_mesh::Tmesh;
+
+// What came of setting a pull, and the map after it.
+pub struct Pulled {
+    pub outcome: Outcome,
+    pub map: Tmesh,
+}
+
+// Whether a number may be a pull: at least 0 and finite.
+fn can_pull(pull: f64) -> bool
+    ensures { λ r. ⌜ r ≡ canPull pull ⌝ }
+{
+    0.0 <= pull && pull < 1.0 / 0.0
+}
+
+// A place with another pull.
+fn repulled(place: Place, pull: f64) -> Place
+    ensures { λ r. ⌜ r ≡ repulled place pull ⌝ }
+{
+    let position = place.position;
+    Place { position, pull }
+}
+
+// The pull of a made point, listed or not; nothing else of the map changes.
+pub fn set_pull(mut map: Tmesh, n: u8, pull: f64) -> Pulled
+    ensures is { λ r. ⌜ r ≡ setPull map n pull ⌝ }
+    ensures told { λ r. ⌜ outcomeTold (r .outcome) ≡ pullTable map n pull ⌝ }
+{
+    let mut mesh = map.mesh;
+    if !is_made(mesh.made, n) {
+        return Pulled {
+            outcome: Outcome::Refused(Refusal::NoPoint),
+            map,
+        };
+    }
+    if !can_pull(pull) {
+        return Pulled {
+            outcome: Outcome::Refused(Refusal::Pull),
+            map,
+        };
+    }
+    let place = repulled(mesh.places[n as usize], pull);
+    mesh.places[n as usize] = place;
+    map.mesh = mesh;
+    Pulled {
+        outcome: Outcome::Done,
+        map,
+    }
+}

@@ -1,0 +1,108 @@
+-- THE PULLS OF A MAP, after every list of calls of the kinds of MapCalls, with any arguments, whatever they answer. A number has the pull that was last set for it by a call
+-- that was answered 0, and 1.0 if there was none: so a number that no such call was on has the pull 1.0, whether it was made by an insertion, done or torn, or alone, or not at all.
+-- Where every pull so set is 1.0, every evaluation is the one without pulls, bit for bit; of settings that are refused nothing is asked. And nothing but evaluations sees the pulls:
+-- a list leaves the points with their sides and counts, the listing, the kept knots and the index that it leaves without its settings of pulls.
+-- Every beginning of a list is a list, so that it is so at every place in one.
+use Prim.Native.Nat.{ℕ}
+use mathlib.Core.Path.{_≡_}
+use mathlib.Core.Bool.{Bool, true, false, cond, _&&_}
+use mathlib.Core.List.{List, [], _∷_}
+use lib.Dec.{eqb}
+use lib.Ieee.{Float}
+use Rattle.float64.specs.Literals.{oneLiteral}
+use Rattle.calls.specs.Calls.{Call, insertion, evaluation, question, pulling}
+use Rattle.surface.specs.Evaluation.{subsOf}
+use Rattle.surface.specs.Plain.{plainSubs}
+use Rattle.t_mesh.specs.Tmesh.{pullOf, newTmesh}
+use Rattle.t_mesh.specs.declared.t_mesh.Position.{Position}
+use Rattle.t_mesh.specs.declared.t_mesh.Tmesh.{Tmesh}
+use Rattle.soundness.specs.MapCalls.{MapCall, entry, generate-knot-vectors, point-knot-vectors, cast-ray, direct, afterCall, mapAfterAll, numberTo}
+
+-- ---- the last one set
+-- the pull of n after a call, by the one before: where the call sets the pull of n and is answered 0, that one
+abbrev pub entryPull : ℕ → Call → ℕ → Float → Float
+entryPull number (insertion withdraws con d ratio position) n before = before
+entryPull number (evaluation s t) n before = before
+entryPull number (question cell) n before = before
+entryPull number (pulling m pull) n before = cond (eqb n m && eqb number 0) pull before
+
+abbrev pub callPull : Float → Tmesh → MapCall → ℕ → Float → Float
+callPull e map (entry call) n before = entryPull (numberTo e map (entry call)) call n before
+callPull e map generate-knot-vectors n before = before
+callPull e map (point-knot-vectors m) n before = before
+callPull e map (cast-ray m d buffer) n before = before
+callPull e map (direct call) n before = before
+
+-- after a list of calls
+unfoldable pub lastPull : Float → Tmesh → List MapCall → ℕ → Float → Float
+lastPull e map [] n before = before
+lastPull e map (call ∷ rest) n before = lastPull e (afterCall e map call) rest n (callPull e map call n before)
+
+-- Each number, made or not, has the last pull set for it by a call answered 0, and 1.0 if none was.
+abbrev pub PullIsLastSet : Type 0
+PullIsLastSet =
+    (e weight : Float) (bottomLeft bottomRight topRight topLeft : Position) (calls : List MapCall) (n : ℕ)
+    → pullOf (mapAfterAll e (newTmesh weight bottomLeft bottomRight topRight topLeft) calls) n
+    ≡ lastPull e (newTmesh weight bottomLeft bottomRight topRight topLeft) calls n oneLiteral
+
+-- ---- none set
+-- no call of a list sets the pull of n: those that would are refused
+abbrev pub NeverSet : Float → Tmesh → List MapCall → ℕ → Type 0
+NeverSet e map [] n = Unit {0}
+NeverSet e map (call ∷ rest) n =
+    ((pull : Float) → call ≡ entry (pulling n pull) → numberTo e map call ≡ 0 → ⊥) × NeverSet e (afterCall e map call) rest n
+
+-- Such a number has the pull 1.0, made or not.
+abbrev pub UnsetPullIsOne : Type 0
+UnsetPullIsOne =
+    (e weight : Float) (bottomLeft bottomRight topRight topLeft : Position) (calls : List MapCall) (n : ℕ)
+    → NeverSet e (newTmesh weight bottomLeft bottomRight topRight topLeft) calls n
+    → pullOf (mapAfterAll e (newTmesh weight bottomLeft bottomRight topRight topLeft) calls) n ≡ oneLiteral
+
+-- ---- every one set is 1.0
+abbrev pub OnesSet : Float → Tmesh → List MapCall → Type 0
+OnesSet e map [] = Unit {0}
+OnesSet e map (call ∷ rest) =
+    ((n : ℕ) (pull : Float) → call ≡ entry (pulling n pull) → numberTo e map call ≡ 0 → pull ≡ oneLiteral) × OnesSet e (afterCall e map call) rest
+
+-- Then an evaluation of the map that the list leaves, with any closeness, is the one without pulls: the answer, bit for bit, and the map after it.
+abbrev pub OnesArePlain : Type 0
+OnesArePlain =
+    (e weight : Float) (bottomLeft bottomRight topRight topLeft : Position) (calls : List MapCall)
+    → OnesSet e (newTmesh weight bottomLeft bottomRight topRight topLeft) calls
+    → (closeness s t : Float)
+    → subsOf closeness (mapAfterAll e (newTmesh weight bottomLeft bottomRight topRight topLeft) calls) s t
+    ≡ plainSubs closeness (mapAfterAll e (newTmesh weight bottomLeft bottomRight topRight topLeft) calls) s t
+
+-- ---- what does not see them
+-- a map without its places: the points, the listing, whether knots are kept, the knots and the index
+abbrev pub withoutPlaces : Tmesh → Tmesh
+withoutPlaces map =
+    record {
+      mesh = record { points = map .mesh .points; made = map .mesh .made; places = []; listed = map .mesh .listed };
+      kept = map .kept;
+      knots = map .knots;
+      index = map .index;
+    }
+
+-- a list without its settings of pulls
+abbrev pub isPulling : Call → Bool
+isPulling (insertion withdraws con d ratio position) = false
+isPulling (evaluation s t) = false
+isPulling (question cell) = false
+isPulling (pulling n pull) = true
+
+abbrev pub setsPull : MapCall → Bool
+setsPull (entry call) = isPulling call
+setsPull generate-knot-vectors = false
+setsPull (point-knot-vectors n) = false
+setsPull (cast-ray n d buffer) = false
+setsPull (direct call) = false
+
+unfoldable pub withoutPulls : List MapCall → List MapCall
+withoutPulls [] = []
+withoutPulls (call ∷ rest) = cond (setsPull call) (withoutPulls rest) (call ∷ withoutPulls rest)
+
+-- On every map: but for the places a list leaves the map that it leaves without its settings of pulls.
+abbrev pub PullsUnseen : Type 0
+PullsUnseen = (e : Float) (map : Tmesh) (calls : List MapCall) → withoutPlaces (mapAfterAll e map calls) ≡ withoutPlaces (mapAfterAll e map (withoutPulls calls))
