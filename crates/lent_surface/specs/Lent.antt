@@ -5,9 +5,9 @@ use Prim.Native.Nat.{ℕ}
 use mathlib.Core.Bool.{Bool, true, false}
 use mathlib.Core.List.{List, [], _∷_, map}
 use mathlib.Core.Path.{_≡_}
-use lib.Ieee.{Float}
+use lib.Ieee.{Float, nan}
 use lib.ListN.{length, getD, replicate}
-use Rattle.float64.specs.Literals.{zeroLiteral, oneLiteral}
+use Rattle.float64.specs.Literals.{zeroLiteral}
 use Rattle.control_point.specs.Told.{Told, tells}
 use Rattle.control_point.specs.declared.refusal.Outcome.{Outcome}
 use Rattle.control_point.specs.declared.refusal.Outcome.the-variants.{Done, Refused}
@@ -26,9 +26,9 @@ use Rattle.surface.specs.Evaluation.{withKnots, withKnotsTable}
 abbrev pub placeRow : Place → List Float
 placeRow place = place .position .x ∷ (place .position .y ∷ (place .position .z ∷ (place .pull ∷ [])))
 
--- the place in a row, and in a point's row; every row has its four floats
+-- the place in a row, and in a point's row
 abbrev pub rowPlace : List Float → Place
-rowPlace row = record { position = rowPosition row; pull = getD row 3 oneLiteral }
+rowPlace row = record { position = rowPosition row; pull = getD row 3 nan }
 
 abbrev pub lentPlace : List (List Float) → ℕ → Place
 lentPlace places n = rowPlace (getD places n [])

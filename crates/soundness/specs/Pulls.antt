@@ -3,7 +3,7 @@
 -- Where every pull so set is 1.0, every evaluation is the one without pulls, bit for bit; of settings that are refused nothing is asked. And nothing but evaluations sees the pulls:
 -- a list leaves the points with their sides and counts, the listing, the kept knots and the index that it leaves without its settings of pulls.
 -- Every beginning of a list is a list, so that it is so at every place in one.
-use Prim.Native.Nat.{ℕ}
+use Prim.Native.Nat.{ℕ, _<_}
 use mathlib.Core.Path.{_≡_}
 use mathlib.Core.Bool.{Bool, true, false, cond, _&&_}
 use mathlib.Core.List.{List, [], _∷_}
@@ -38,10 +38,11 @@ unfoldable pub lastPull : Float → Tmesh → List MapCall → ℕ → Float →
 lastPull e map [] n before = before
 lastPull e map (call ∷ rest) n before = lastPull e (afterCall e map call) rest n (callPull e map call n before)
 
--- Each number, made or not, has the last pull set for it by a call answered 0, and 1.0 if none was.
+-- Each number that there may be a point of, made or not, has the last pull set for it by a call answered 0, and 1.0 if none was.
 abbrev pub PullIsLastSet : Type 0
 PullIsLastSet =
     (e weight : Float) (bottomLeft bottomRight topRight topLeft : Position) (calls : List MapCall) (n : ℕ)
+    → n < 128
     → pullOf (mapAfterAll e (newTmesh weight bottomLeft bottomRight topRight topLeft) calls) n
     ≡ lastPull e (newTmesh weight bottomLeft bottomRight topRight topLeft) calls n oneLiteral
 
@@ -56,6 +57,7 @@ NeverSet e map (call ∷ rest) n =
 abbrev pub UnsetPullIsOne : Type 0
 UnsetPullIsOne =
     (e weight : Float) (bottomLeft bottomRight topRight topLeft : Position) (calls : List MapCall) (n : ℕ)
+    → n < 128
     → NeverSet e (newTmesh weight bottomLeft bottomRight topRight topLeft) calls n
     → pullOf (mapAfterAll e (newTmesh weight bottomLeft bottomRight topRight topLeft) calls) n ≡ oneLiteral
 

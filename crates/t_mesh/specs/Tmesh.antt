@@ -38,7 +38,7 @@ abbrev pub noPosition : Position
 noPosition = record { x = nan; y = nan; z = nan }
 
 abbrev pub noPlace : Place
-noPlace = unpulled noPosition
+noPlace = record { position = noPosition; pull = nan }
 
 -- a point's
 abbrev pub placeOf : Tmesh → ℕ → Place

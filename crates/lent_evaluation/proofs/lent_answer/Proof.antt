@@ -1,10 +1,11 @@
 -- `lent_answer` meets its contract: at each turn the rows of the points below n are filled and the sums by them stand at n, in the map that the arrays hold.
 use Prim.Native.Nat.{_≤_, _<_, _-_}
-use mathlib.Core.Path.{_≡_}
+use mathlib.Core.Path.{_≡_, ap, _∙_}
 use mathlib.Core.Logic.{⊎-elim}
 use native.Mathlib.Omega.{arith}
 use borrow.Author.Needs.{needs}
 use denote.Ref.{now}
+use Rattle.t_mesh.specs.Tmesh.{unpulled}
 use Rattle.lent_evaluation.proofs.Turn.{LentTurn, turn-first, turn-end, turn-passed, turn-refused, turn-added}
 use Rattle.lent_evaluation.proofs.lent_answer.Statement.{statement}
 use Rattle.lent_evaluation.proofs.lent_answer.Tie as tie
@@ -50,6 +51,9 @@ enum-told c = search needs
 lent-position-requires : tie.Need-lent-position-requires Inv-loop μ-loop
 lent-position-requires c κs = search needs
 
+unpulled-requires : tie.Need-unpulled-requires Inv-loop μ-loop
+unpulled-requires c κs = search needs
+
 share-of-requires : tie.Need-share-of-requires Inv-loop μ-loop
 share-of-requires c κs = search needs
 
@@ -71,7 +75,7 @@ loop-again c =
           (λ w.
           turn-added (a .closeness) (now (a .kinds)) (now (a .numbers)) (now (a .intervals)) (now (a .coordinates)) (a .made) (now (a .positions)) (now (a .listed)) (a .s) (a .t)
           (k .n) (k .x) (k .y) (k .z) (k .weight) (k .inv .1) h (w .1 .result) (w .1 .ensures) (w .0 .taken) (w .3 .given .1)
-          (w .4 .result) (w .4 .ensures) (w .5 .result) (w .5 .ensures) (o .x) (o .y) (o .z) (o .weight) (w .10) (w .11) (w .12) (w .13))
+          (w .5 .result) (w .5 .ensures ∙ ap unpulled (w .4 .ensures)) (w .6 .result) (w .6 .ensures) (o .x) (o .y) (o .z) (o .weight) (w .11) (w .12) (w .13) (w .14))
           (λ w.
           turn-passed (a .closeness) (now (a .kinds)) (now (a .numbers)) (now (a .intervals)) (now (a .coordinates)) (a .made) (now (a .positions)) (now (a .listed)) (a .s) (a .t)
           (k .n) (k .x) (k .y) (k .z) (k .weight) (k .inv .1) h (w .0 .left) (o .x) (o .y) (o .z) (o .weight) (w .1) (w .2) (w .3) (w .4))
@@ -101,6 +105,7 @@ lent-answer-spec =
     returns
     enum-told
     lent-position-requires
+    unpulled-requires
     share-of-requires
     add-n
     loop-less

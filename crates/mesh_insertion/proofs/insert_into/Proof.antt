@@ -15,7 +15,7 @@ use Rattle.insertion.specs.Insert.{isRefused, insertPoint}
 use Rattle.insertion.specs.declared.insertion.Inserted.{Inserted}
 use Rattle.t_mesh.specs.Insertion.{answeredMesh, insertIntoMesh}
 use Rattle.t_mesh.specs.Tmesh.{meshStore, listedIn}
-use Rattle.t_mesh.specs.declared.t_mesh.Position.{Position}
+use Rattle.t_mesh.specs.declared.t_mesh.Place.{Place}
 use Rattle.t_mesh.specs.InsertionLaws.{placed-made, mesh-refused, mesh-placed}
 use Rattle.mesh_insertion.proofs.insert_into.Statement.{statement}
 use Rattle.mesh_insertion.proofs.insert_into.Tie as tie
@@ -30,7 +30,7 @@ abbrev μ-loop : tie.MeasureT-loop
 
 abbrev Inv-loop2 : tie.InvT-loop2
 Inv-loop2 closeness con ratio position mesh₀ p kinds numbers intervals coordinates n listed answer packed₀ mesh packed =
-    (packed ≤ p + 1) × ((mesh .positions ≡ mesh₀ .positions) × ((mesh .listed ≡ mesh₀ .listed) × PackedTo packed (lentPoints kinds numbers intervals coordinates) (mesh₀ .points) (mesh .points)))
+    (packed ≤ p + 1) × ((mesh .places ≡ mesh₀ .places) × ((mesh .listed ≡ mesh₀ .listed) × PackedTo packed (lentPoints kinds numbers intervals coordinates) (mesh₀ .points) (mesh .points)))
 
 abbrev μ-loop2 : tie.MeasureT-loop2
 μ-loop2 closeness con ratio position mesh₀ p kinds numbers intervals coordinates n listed answer packed₀ mesh packed =
@@ -198,35 +198,39 @@ loop2-again c =
 add-mesh : tie.Need-add-mesh Inv-loop μ-loop Inv-loop2 μ-loop2
 add-mesh c = omega (arith, made-more (c .before .before) .0)
 
-cast-position : tie.Need-cast-position Inv-loop μ-loop Inv-loop2 μ-loop2
-cast-position c = omega (arith, made-more (c .before .before) .0)
+unpulled-requires : tie.Need-unpulled-requires Inv-loop μ-loop Inv-loop2 μ-loop2
+unpulled-requires c κs = search needs
 
-mul-position : tie.Need-mul-position Inv-loop μ-loop Inv-loop2 μ-loop2
-mul-position c = omega (arith, made-more (c .before .before) .0)
+cast-place : tie.Need-cast-place Inv-loop μ-loop Inv-loop2 μ-loop2
+cast-place c = omega (arith, made-more (c .before .before .before) .0)
 
-element-set-from-position : tie.Need-element-set-from-position Inv-loop μ-loop Inv-loop2 μ-loop2
-element-set-from-position c = made-more (c .before .before) .0
+mul-place : tie.Need-mul-place Inv-loop μ-loop Inv-loop2 μ-loop2
+mul-place c = omega (arith, made-more (c .before .before .before) .0)
+
+element-set-from-place : tie.Need-element-set-from-place Inv-loop μ-loop Inv-loop2 μ-loop2
+element-set-from-place c = made-more (c .before .before .before) .0
 
 is-done-requires : tie.Need-is-done-requires Inv-loop μ-loop Inv-loop2 μ-loop2
 is-done-requires c κs = search needs
 
 cast-mesh : tie.Need-cast-mesh Inv-loop μ-loop Inv-loop2 μ-loop2
-cast-mesh c = omega (arith, made-more (c .before .before .before) .0)
+cast-mesh c = omega (arith, made-more (c .before .before .before .before) .0)
 
 element-write-mesh : tie.Need-element-write-mesh Inv-loop μ-loop Inv-loop2 μ-loop2
-element-write-mesh c = made-more (c .before .before .before) .0
+element-write-mesh c = made-more (c .before .before .before .before) .0
 
 returns : tie.Need-returns Inv-loop μ-loop Inv-loop2 μ-loop2
 unfolding insertIntoMesh
 returns c =
-    let e = c .before in
+    let e = c .before .before in
     let l = e .before .loop2 in
     let t = e .before .before in
     let x = came t in
     let a = begun (listed-of x) .args in
     let p = a .t2 .made in
-    ap (λ (positions : List Position). record { answer = x .insert-point .result; mesh = record { points = l .mesh .points; made = p + 1; positions = set positions p (a .position); listed = set (l .mesh .listed) p (c .is-done .result) } }) (l .inv .1 .0)
-    ∙ ap (λ (listed : List Bool). record { answer = x .insert-point .result; mesh = record { points = l .mesh .points; made = p + 1; positions = set (a .t2 .positions) p (a .position); listed = set listed p (c .is-done .result) } }) (l .inv .1 .1 .0)
+    ap (λ (places : List Place). record { answer = x .insert-point .result; mesh = record { points = l .mesh .points; made = p + 1; places = set places p (c .before .unpulled .result); listed = set (l .mesh .listed) p (c .is-done .result) } }) (l .inv .1 .0)
+    ∙ ap (λ (listed : List Bool). record { answer = x .insert-point .result; mesh = record { points = l .mesh .points; made = p + 1; places = set (a .t2 .places) p (c .before .unpulled .result); listed = set listed p (c .is-done .result) } }) (l .inv .1 .1 .0)
+    ∙ ap (λ (place : Place). record { answer = x .insert-point .result; mesh = record { points = l .mesh .points; made = p + 1; places = set (a .t2 .places) p place; listed = set (a .t2 .listed) p (c .is-done .result) } }) (c .before .unpulled .ensures)
     ∙ mesh-placed (a .t2) (a .position) (l .mesh .points) (p + 1) (x .insert-point .result) (c .is-done .result) (inserted x) (answered x .0) (stands t) (points-are e) (sym (made-more t .1)) (c .is-done .ensures)
     ∙ ap (answeredMesh (a .t2) (a .position)) (defined x)
 
@@ -267,9 +271,10 @@ insert-into-spec =
     loop2-less
     loop2-again
     add-mesh
-    cast-position
-    mul-position
-    element-set-from-position
+    unpulled-requires
+    cast-place
+    mul-place
+    element-set-from-place
     is-done-requires
     cast-mesh
     element-write-mesh

@@ -4,7 +4,7 @@ use Rattle.pull.proofs.can_pull.Statement.{statement}
 use Rattle.pull.proofs.can_pull.Tie as tie
 
 returns : tie.Need-returns
-returns c = simp (c .before .if1 .taken, infinity)
+returns c = simp (c .if1 .taken, infinity)
 
 returns-2 : tie.Need-returns-2
 returns-2 c = simp (c .if1 .left)
