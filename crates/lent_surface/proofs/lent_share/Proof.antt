@@ -3,6 +3,12 @@ use borrow.Author.Needs.{needs}
 use Rattle.lent_surface.proofs.lent_share.Statement.{statement}
 use Rattle.lent_surface.proofs.lent_share.Tie as tie
 
+mul-place : tie.Need-mul-place
+mul-place c = search needs
+
+element-copy-out-place : tie.Need-element-copy-out-place
+element-copy-out-place c = search needs
+
 mul-basis-function : tie.Need-mul-basis-function
 mul-basis-function c = search needs
 
@@ -21,37 +27,35 @@ element-copy-out-basis-function-2 c = search needs
 basis-function-requires-2 : tie.Need-basis-function-requires-2
 basis-function-requires-2 c κs = search needs
 
-mul-position : tie.Need-mul-position
-mul-position c = search needs
+array-read-weight : tie.Need-array-read-weight
+array-read-weight c = search needs
 
-element-copy-out-position : tie.Need-element-copy-out-position
-element-copy-out-position c = search needs
+array-read-t13 : tie.Need-array-read-t13
+array-read-t13 c = search needs
 
-array-read-t9 : tie.Need-array-read-t9
-array-read-t9 c = search needs
+array-read-t22 : tie.Need-array-read-t22
+array-read-t22 c = search needs
 
-array-read-t26 : tie.Need-array-read-t26
-array-read-t26 c = search needs
-
-array-read-t30 : tie.Need-array-read-t30
-array-read-t30 c = search needs
+array-read-t32 : tie.Need-array-read-t32
+array-read-t32 c = search needs
 
 returns : tie.Need-returns
-returns c = rw (c .before .before .before .basis-function .ensures, c .before .basis-function2 .ensures)
+returns c = rw (c .before .before .basis-function .ensures, c .basis-function2 .ensures)
 
 pub lent-share-spec : {M : Type 1} → statement M
 lent-share-spec =
     tie.close
     (tie.spec
+    mul-place
+    element-copy-out-place
     mul-basis-function
     element-copy-out-basis-function
     basis-function-requires
     mul-basis-function-2
     element-copy-out-basis-function-2
     basis-function-requires-2
-    mul-position
-    element-copy-out-position
-    array-read-t9
-    array-read-t26
-    array-read-t30
+    array-read-weight
+    array-read-t13
+    array-read-t22
+    array-read-t32
     returns)

@@ -6,7 +6,6 @@ use borrow.Author.Needs.{needs}
 use denote.Ref.{now}
 use lib.ListN.{length-replicate, set}
 use Rattle.t_mesh.specs.Tmesh.{unpulled, noPlace}
-use Rattle.t_mesh.specs.declared.t_mesh.Place.{Place}
 use Rattle.lent_mesh.specs.LentMesh.{unpulledAt}
 use Rattle.values.specs.ValuesLaws.{StoredTo, stored-none, stored-more, stored-all}
 use Rattle.packed_map.proofs.packed_places.Statement.{statement}
@@ -22,7 +21,7 @@ unpulled-requires : tie.Need-unpulled-requires Inv-loop μ-loop
 unpulled-requires c κs = search needs
 
 loop-holds : tie.Need-loop-holds Inv-loop μ-loop
-loop-holds c = (omega arith, stored-none (unpulledAt (now (c .before .args .positions))) noPlace 128 _ (length-replicate {A = Place} 128 _))
+loop-holds c = (omega arith, stored-none (unpulledAt (now (c .before .args .positions))) noPlace 128 _ (length-replicate 128 (c .unpulled .result)))
 
 lent-position-requires : tie.Need-lent-position-requires Inv-loop μ-loop
 lent-position-requires c κs = search needs
