@@ -2,6 +2,7 @@
 use Prim.Native.Nat.{ℕ}
 use mathlib.Core.Path.{_≡_, _∙_, sym, ap}
 use mathlib.Core.Bool.{true}
+use native.Mathlib.Omega.{arith}
 use borrow.Author.Needs.{needs}
 use borrow.Author.Tests.{not-true, not-false}
 use lib.Ieee.{Float}
@@ -57,7 +58,7 @@ mul-place : tie.Need-mul-place
 mul-place c = search needs
 
 element-set-from-place : tie.Need-element-set-from-place
-element-set-from-place c = isMade-room _ _ (made (c .before .before .before .before))
+element-set-from-place c = omega (arith, isMade-room _ _ (made (c .before .before .before .before)))
 
 returns-3 : tie.Need-returns-3
 returns-3 c =
