@@ -10,6 +10,10 @@ half = ofBits binary64 0x3fe0_0000_0000_0000
 abbrev pub two : Float
 two = ofBits binary64 0x4000_0000_0000_0000
 
+-- 3.0
+abbrev pub three : Float
+three = ofBits binary64 0x4008_0000_0000_0000
+
 -- 7.0
 abbrev pub seven : Float
 seven = ofBits binary64 0x401c_0000_0000_0000

@@ -5,10 +5,10 @@ use lib.Ieee.{Float}
 use Rattle.float64.specs.SignLaws.{le→nonneg, nonneg→nonnegOrNan}
 use Rattle.t_mesh.specs.Tmesh.{Axis, newTmesh}
 use Rattle.t_mesh.specs.declared.t_mesh.Tmesh.{Tmesh}
-use Rattle.calls.specs.Calls.{Call, insertion, evaluation, question, inserted, mapAfter, runOf}
+use Rattle.calls.specs.Calls.{Call, insertion, evaluation, question, pulling, inserted, mapAfter, runOf}
 use Rattle.calls.specs.FullStroke.{Each, DoneInUnit, EvaluationInUnit, NeverPastFullStroke}
 use Rattle.calls.specs.Sound.{Sound, AnswerInUnit}
-use Rattle.calls.specs.SoundLaws.{new-sound, insertion-sound, evaluation-sound, question-sound}
+use Rattle.calls.specs.SoundLaws.{new-sound, insertion-sound, evaluation-sound, question-sound, pulling-sound}
 use Rattle.calls.specs.WithdrawalLaws.{by-either-rule}
 
 module _ (axis : Axis) (e : Float) where
@@ -28,6 +28,8 @@ module _ (axis : Axis) (e : Float) where
       ((λ value equal. subst (AnswerInUnit axis) equal (evaluated .0)), run-in-unit rest (mapAfter e map (evaluation s t)) (evaluated .1) (h .1))
   run-in-unit (question cell ∷ rest) map sound h =
       ((λ value equal. subst (AnswerInUnit axis) equal tt), run-in-unit rest (mapAfter e map (question cell)) (question-sound axis e map sound cell) (h .1))
+  run-in-unit (pulling n pull ∷ rest) map sound h =
+      ((λ value equal. subst (AnswerInUnit axis) equal tt), run-in-unit rest (mapAfter e map (pulling n pull)) (pulling-sound axis map sound n pull) (h .1))
 
 pub never-past-full-stroke : NeverPastFullStroke
 never-past-full-stroke e w bottomLeft bottomRight topRight topLeft axis calls premises =

@@ -6,6 +6,7 @@ pub mod InsertionLaws
 pub mod Good
 pub mod GoodLaws
 pub mod GoodKnotsLaws
+pub mod PullingLaws
 pub mod Sound
 pub mod SoundLaws
 pub mod WithdrawalLaws

@@ -2,27 +2,33 @@
 -- premises on the first axis and whose evaluation is exactly 1.0 there; and one that meets them on every axis, in which a torn point
 -- at 7.0 stands in the mesh, linked and not listed, and whose evaluation has a positive and finite weight and lies in 0 to 1.
 -- Torn insertions are withdrawn where the call says so: the same insertion is then answered the same and leaves the map as it was, whether it keeps knots or not.
+-- A corner's pull of 3.0 draws an evaluation towards the corner; settings of pulls are refused 11 and 17, and then change nothing; with every pull 0.0 a set-point is refused 15.
+use Prim.Native.Nat.{ℕ}
 use mathlib.Core.Path.{_≡_}
 use mathlib.Core.Bool.{true, false}
 use mathlib.Core.List.{List, [], _∷_}
 use lib.Dec.{T}
-use lib.Ieee.{inf, binary64, ofBits, lt}
+use lib.Ieee.{Float, nan, inf, binary64, ofBits, lt}
 use Rattle.float64.specs.Literals.{zeroLiteral, oneLiteral}
 use Rattle.float64.specs.Sign.{0f}
+use Rattle.control_point.specs.Point.{minusOne}
 use Rattle.control_point.specs.Small.{millionth}
+use Rattle.control_point.specs.Told.{outcomeNumber}
+use Rattle.control_point.specs.declared.refusal.Outcome.the-variants.{Done as Set}
 use Rattle.control_point.specs.declared.t_mesh_control_point.Side.the-variants.{Link}
 use Rattle.control_point.specs.declared.t_mesh_direction.TmeshDirection.the-variants.{Right}
 use Rattle.store.specs.Store.{storeSides}
 use Rattle.insertion.specs.declared.insertion.InsertAnswer.the-variants.{Done, Torn}
-use Rattle.t_mesh.specs.Tmesh.{Axis, X, storeOf, isListed, newTmesh}
+use Rattle.t_mesh.specs.Tmesh.{Axis, X, positionOf, pullOf, storeOf, isListed, newTmesh}
 use Rattle.t_mesh.specs.declared.t_mesh.Position.{Position}
 use Rattle.t_mesh.specs.declared.t_mesh.Tmesh.{Tmesh}
-use Rattle.surface.specs.Evaluation.{onAxis, positionOf}
+use Rattle.pull.specs.Pull.{setPull}
+use Rattle.surface.specs.Evaluation.{evaluationNumber, onAxis, subsOf, asSetPoint}
 use Rattle.surface.specs.declared.evaluation.Evaluation.{Evaluation}
 use Rattle.surface.specs.declared.evaluation.EvaluationAnswer.the-variants.{Is}
-use Rattle.calls.specs.Calls.{Call, insertion, evaluation, inserted, evaluated, answerTo, mapAfter, runOf}
+use Rattle.calls.specs.Calls.{Call, insertion, evaluation, pulling, inserted, evaluated, pulled, answerTo, mapAfter, runOf}
 use Rattle.calls.specs.FullStroke.{InUnit, Premises}
-use Rattle.calls.specs.ExampleValues.{half, seven, positionAt}
+use Rattle.calls.specs.ExampleValues.{half, three, seven, positionAt}
 
 -- the weight of a value is positive and finite
 abbrev pub Weighty : Evaluation → Type 0
@@ -141,6 +147,61 @@ pub record WithdrawnLeavesMap : Type 0 where
   pub keeps : evaluatedPlate .kept ≡ true
   pub with-knots : LeavesMap evaluatedPlate
 
--- all three
+-- ---- pulls, on the same map
+-- an evaluation in the middle, the pull of the corner at (1, 1, 1) set to 3.0, and the evaluation again
+abbrev pub pulledCalls : List Call
+pulledCalls = evaluation half half ∷ (pulling 2 three ∷ (evaluation half half ∷ []))
+
+-- what the evaluations answer: 0.5 on each axis, and then two thirds
+abbrev pub between : Evaluation
+between = record { x = half; y = half; z = half; weight = ofBits binary64 0x3fec_2000_0000_0000 }
+
+abbrev pub drawn : Evaluation
+drawn =
+    record {
+      x = ofBits binary64 0x3fe5_5555_5555_5555;
+      y = ofBits binary64 0x3fe5_5555_5555_5555;
+      z = ofBits binary64 0x3fe5_5555_5555_5555;
+      weight = ofBits binary64 0x3ff5_1800_0000_0000;
+    }
+
+-- the calls with their answers
+abbrev pub PulledRun : Type 0
+PulledRun =
+    runOf millionth plate pulledCalls
+    ≡ record { call = evaluation half half; answer = evaluated (Is between) }
+    ∷ (record { call = pulling 2 three; answer = pulled Set } ∷ (record { call = evaluation half half; answer = evaluated (Is drawn) } ∷ []))
+
+-- a setting that is refused by a number and leaves the map as it was
+abbrev pub RefusedBy : ℕ → ℕ → Float → Type 0
+RefusedBy number n pull = (outcomeNumber (setPull plate n pull .outcome) ≡ number) × (setPull plate n pull .map ≡ plate)
+
+-- one that is done
+abbrev pub SetOn : Tmesh → ℕ → Float → Type 0
+SetOn map n pull = (outcomeNumber (setPull map n pull .outcome) ≡ 0) × (pullOf (setPull map n pull .map) n ≡ pull)
+
+-- every corner's pull 0.0
+abbrev pub withoutPull : Tmesh → ℕ → Tmesh
+withoutPull map n = mapAfter millionth map (pulling n zeroLiteral)
+
+abbrev pub weightlessPlate : Tmesh
+weightlessPlate = withoutPull (withoutPull (withoutPull (withoutPull plate 0) 1) 2) 3
+
+pub record PullsAnswered : Type 0 where
+  pub run : PulledRun
+  -- a number never made: 11, also where the pull is a NaN
+  pub unmade : RefusedBy 11 4 three
+  pub unmade-first : RefusedBy 11 4 nan
+  -- −1.0, infinity and a NaN: 17
+  pub negative : RefusedBy 17 2 minusOne
+  pub infinite : RefusedBy 17 2 (inf false)
+  pub not-a-number : RefusedBy 17 2 nan
+  -- −0.0 is set, and so is the pull of the torn point, which is not listed
+  pub minus-zero : SetOn plate 2 (ofBits binary64 0x8000_0000_0000_0000)
+  pub torn : SetOn (mapAfter millionth plate tearing) 4 three
+  -- with no weight left a set-point is refused 15
+  pub weightless : evaluationNumber (asSetPoint (subsOf millionth weightlessPlate half half .answer)) ≡ 15
+
+-- all of these
 abbrev pub NotEmpty : Type 0
-NotEmpty = FullStrokeTouched × (TornPointPassedOver × WithdrawnLeavesMap)
+NotEmpty = FullStrokeTouched × (TornPointPassedOver × (WithdrawnLeavesMap × PullsAnswered))

@@ -17,18 +17,20 @@ use Rattle.ray.specs.Ray.{rayFrom, rayOf}
 use Rattle.ray.specs.Knots.{knotsAt, pointKnotVectors}
 use Rattle.t_mesh.specs.Tmesh.{Axis, X, Y, Z, coordinate, newTmesh}
 use Rattle.t_mesh.specs.Insertion.{addControlPoint}
+use Rattle.pull.specs.Pull.{setPull}
 use Rattle.knot_vectors.specs.Knots.{rowsFrom, allKnots, generateKnotVectors}
-use Rattle.surface.specs.Evaluation.{onAxis, sumFrom, valueOf, withKnots, subsOf}
-use Rattle.calls.specs.Calls.{Call, insertion, evaluation, question, Answer, inserted, evaluated, questioned, Event, runOf}
+use Rattle.surface.specs.Evaluation.{onAxis, sumFrom, valueOf, withKnots, subsOf, setPoint}
+use Rattle.calls.specs.Calls.{Call, insertion, evaluation, question, pulling, Answer, inserted, evaluated, questioned, pulled, Event, runOf}
 use Rattle.calls.specs.FullStroke.{InUnit, Each, DoneInUnit}
 use Rattle.calls.specs.ExampleValues.{positionAt}
-use Rattle.calls.specs.NotEmpty.{FullRun, FullStrokeTouched, inside, TornRun, TornStands, TornPointPassedOver, WithdrawnLeavesMap, NotEmpty}
+use Rattle.calls.specs.NotEmpty.{FullRun, FullStrokeTouched, inside, TornRun, TornStands, TornPointPassedOver, WithdrawnLeavesMap, PullsAnswered, NotEmpty}
 
 -- ---- the premises on done insertions, of single events
 abbrev PlacedInUnit : Axis → Call → Type 0
 PlacedInUnit axis (insertion withdraws con d ratio position) = InUnit (coordinate axis position)
 PlacedInUnit axis (evaluation s t) = Unit {0}
 PlacedInUnit axis (question cell) = Unit {0}
+PlacedInUnit axis (pulling n pull) = Unit {0}
 
 abbrev NotDone : Answer → Type 0
 NotDone (inserted (Done opened links)) = ⊥
@@ -36,6 +38,7 @@ NotDone (inserted (Torn opened links)) = Unit {0}
 NotDone (inserted (Refused refusal)) = Unit {0}
 NotDone (evaluated answer) = Unit {0}
 NotDone (questioned answer) = Unit {0}
+NotDone (pulled outcome) = Unit {0}
 
 in-unit-event : (axis : Axis) (event : Event) → PlacedInUnit axis (event .call) → DoneInUnit axis event
 in-unit-event axis event h withdraws con d ratio position opened links call answer = subst (PlacedInUnit axis) call h
@@ -52,12 +55,26 @@ unfolding ofBits ofFields le lt eq
 one-in-unit = (tt, tt)
 
 -- ---- the calls
-computed : FullRun × (TornRun × (TornStands × WithdrawnLeavesMap))
+computed : FullRun × (TornRun × (TornStands × (WithdrawnLeavesMap × PullsAnswered)))
 unfolding runOf newTmesh addControlPoint insertPoint inUnit checked checkedIntervals placed newSide firstSide withFirst secondSide sided
-    connectPoints connectable isMade sidesOf millionth small findInferredConnection seekFrom judgeAt walkOf onward subsOf withKnots
+    connectPoints connectable isMade sidesOf millionth small findInferredConnection seekFrom judgeAt walkOf onward subsOf withKnots setPull setPoint
     generateKnotVectors allKnots rowsFrom pointKnotVectors knotsAt rayOf rayFrom approachOf approachIn valueOf sumFrom formula sumOfTerms
     le lt eq ofBits ofFields add sub mul div sum round units odd size span climb neg
-computed = (refl, (refl, ((refl, (refl, refl)), record { fresh = (refl, refl); keeps = refl; with-knots = (refl, refl) })))
+computed =
+    let withdrawn : WithdrawnLeavesMap = record { fresh = (refl, refl); keeps = refl; with-knots = (refl, refl) } in
+    let pulls : PullsAnswered =
+    record {
+      run = refl;
+      unmade = (refl, refl);
+      unmade-first = (refl, refl);
+      negative = (refl, refl);
+      infinite = (refl, refl);
+      not-a-number = (refl, refl);
+      minus-zero = (refl, refl);
+      torn = (refl, refl);
+      weightless = refl;
+    } in
+    (refl, (refl, ((refl, (refl, refl)), (withdrawn, pulls))))
 
 full-stroke-touched : FullStrokeTouched
 unfolding ofBits ofFields lt

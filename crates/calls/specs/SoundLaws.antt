@@ -1,16 +1,16 @@
--- `Tmesh::new` makes a sound map, and insertion, evaluation and question keep it sound; an evaluation of a sound map is a mean of numbers in 0 to 1
--- with weights that are products of two basis functions, so NaN or not negative.
+-- `Tmesh::new` makes a sound map, and insertion, evaluation, question and the setting of a pull keep it sound; an evaluation of a sound map is a mean of numbers in 0 to 1
+-- with weights that are products of two basis functions and a pull, so NaN or not negative.
 use Prim.Native.Nat.{ℕ, zero, suc, _+_}
-use mathlib.Core.Path.{_≡_, refl}
+use mathlib.Core.Path.{_≡_, refl, sym, subst}
 use mathlib.Core.Bool.{Bool, true, false, cond, false≢true}
 use mathlib.Core.List.{List, [], _∷_}
 use lib.Dec.{T}
-use lib.Ieee.{Float, inf, binary64, add, lt, fits}
+use lib.Ieee.{Float, inf, binary64, add, le, lt, fits}
 use lib.Ieee.Fits.{nan-fits, mul-fits}
 use lib.ListN.{getD, set, replicate}
 use Rattle.float64.specs.Literals.{zeroLiteral, oneLiteral}
 use Rattle.float64.specs.Sign.{0f}
-use Rattle.float64.specs.SignLaws.{literal-zero, literal-one, nonnegOrNan-mul}
+use Rattle.float64.specs.SignLaws.{literal-zero, literal-one, le→nonneg, nonneg→nonnegOrNan, nonnegOrNan-mul}
 use Rattle.float64.specs.Mean.{Admitted}
 use Rattle.float64.specs.MeanLaws.{Bounded, start, step, finish}
 use Rattle.basis.specs.Binary64.{binary64Arithmetic, knots}
@@ -25,49 +25,64 @@ use Rattle.store.specs.declared.store.Store.{Store}
 use Rattle.insertion.specs.Insert.{insertPoint}
 use Rattle.insertion.specs.declared.insertion.InsertAnswer.{InsertAnswer}
 use Rattle.insertion.specs.declared.insertion.InsertAnswer.the-variants.{Done, Torn, Refused}
-use Rattle.t_mesh.specs.Tmesh.{Axis, X, Y, Z, coordinate, storeOf, isListed, corner, cornerStore, origin, blankKnots, newTmesh}
+use Rattle.t_mesh.specs.Tmesh.{Axis, X, Y, Z, coordinate, unpulled, noPlace, positionOf, pullOf, storeOf, isListed, corner, cornerStore, origin, blankKnots, newTmesh}
 use Rattle.t_mesh.specs.Insertion.{afterInsertion, addControlPoint}
+use Rattle.t_mesh.specs.declared.t_mesh.Place.{Place}
 use Rattle.t_mesh.specs.declared.t_mesh.Position.{Position}
 use Rattle.t_mesh.specs.declared.t_mesh.Tmesh.{Tmesh}
+use Rattle.pull.specs.Pull.{canPull, repulled, setPull}
 use Rattle.knot_vectors.specs.Knots.{AllKnots, all, none, allKnots, keeping, generateKnotVectors}
 use Rattle.grid_index.specs.Index.{noKnots}
-use Rattle.surface.specs.Evaluation.{noPosition, positionOf, knotsOf, weightOf, shareOf, sumFrom, totalWeight, meanOn, valueOf, withKnots, subsOf, evaluatedBy}
+use Rattle.surface.specs.Evaluation.{knotsOf, basisOf, weightOf, sumFrom, shareWith, meanWith, totalWeight, valueOf, withKnots, subsOf, evaluatedBy}
 use Rattle.surface.specs.declared.evaluation.EvaluationAnswer.the-variants.{Is}
 use Rattle.knot_vectors.specs.declared.knots.Generated.{Generated}
 use Rattle.cells.specs.Cells.{cellPoints}
 use Rattle.calls.specs.Calls.{evaluated}
 use Rattle.calls.specs.FullStroke.{InUnit}
-use Rattle.mirror.specs.BoolLaws.{cond-case}
-use Rattle.calls.specs.ListLaws.{replicate-case}
+use Rattle.mirror.specs.BoolLaws.{cond-case, and-both}
+use Rattle.calls.specs.ListLaws.{set-case, replicate-case}
 use Rattle.calls.specs.Good.{NotNegative, GoodSide, GoodPoint, GoodStore, GoodKnots, GoodRows}
 use Rattle.calls.specs.GoodLaws.{zero-not-negative, loose-point, point-inserted}
 use Rattle.calls.specs.GoodKnotsLaws.{blank-knots, no-knots, good-rows}
+use Rattle.calls.specs.PullingLaws.{pulled-case}
 use Rattle.calls.specs.RowsLaws.{OfRows}
 use Rattle.calls.specs.Sound.{ListedInUnit, Sound, AnswerInUnit}
 
--- ---- listed positions
+-- ---- listed places
 module _ (axis : Axis) where
-  -- a number with its position
-  placed : (listed : List Bool) (positions : List Position) (n : ℕ) (now : Bool) (position : Position)
-      → (now ≡ true → InUnit (coordinate axis position))
-      → ListedInUnit axis listed positions → ListedInUnit axis (set listed n now) (set positions n position)
-  placed [] positions n now position h k = tt
-  placed (l ∷ more) [] n now position h k = absurd k
-  placed (l ∷ more) (p ∷ positions) zero now position h k = (h, k .1)
-  placed (l ∷ more) (p ∷ positions) (suc n) now position h k = (k .0, placed more positions n now position h (k .1))
+  -- a number with its place
+  placed : (listed : List Bool) (places : List Place) (n : ℕ) (now : Bool) (place : Place)
+      → (now ≡ true → InUnit (coordinate axis (place .position)))
+      → ListedInUnit axis listed places → ListedInUnit axis (set listed n now) (set places n place)
+  placed [] places n now place h k = tt
+  placed (l ∷ more) [] n now place h k = absurd k
+  placed (l ∷ more) (p ∷ places) zero now place h k = (h, k .1)
+  placed (l ∷ more) (p ∷ places) (suc n) now place h k = (k .0, placed more places n now place h (k .1))
+
+  -- a number with another pull
+  pulled-at : (listed : List Bool) (places : List Place) (n : ℕ) (pull : Float) → ListedInUnit axis listed places
+      → ListedInUnit axis listed (set places n (repulled (getD places n noPlace) pull))
+  pulled-at [] places n pull k = tt
+  pulled-at (l ∷ more) [] n pull k = absurd k
+  pulled-at (l ∷ more) (p ∷ places) zero pull k = k
+  pulled-at (l ∷ more) (p ∷ places) (suc n) pull k = (k .0, pulled-at more places n pull (k .1))
 
   -- a listed number's position
-  listed-at : (listed : List Bool) (positions : List Position) (n : ℕ) → ListedInUnit axis listed positions → getD listed n false ≡ true
-      → InUnit (coordinate axis (getD positions n noPosition))
-  listed-at [] positions n k e = absurd (false≢true e)
+  listed-at : (listed : List Bool) (places : List Place) (n : ℕ) → ListedInUnit axis listed places → getD listed n false ≡ true
+      → InUnit (coordinate axis (getD places n noPlace .position))
+  listed-at [] places n k e = absurd (false≢true e)
   listed-at (l ∷ more) [] n k e = absurd k
-  listed-at (l ∷ more) (p ∷ positions) zero k e = k .0 e
-  listed-at (l ∷ more) (p ∷ positions) (suc n) k e = listed-at more positions n (k .1) e
+  listed-at (l ∷ more) (p ∷ places) zero k e = k .0 e
+  listed-at (l ∷ more) (p ∷ places) (suc n) k e = listed-at more places n (k .1) e
 
   -- none of so many is listed
-  none-listed : (n : ℕ) (position : Position) → ListedInUnit axis (replicate n false) (replicate n position)
-  none-listed zero position = tt
-  none-listed (suc n) position = ((λ e. absurd (false≢true e)), none-listed n position)
+  none-listed : (n : ℕ) (place : Place) → ListedInUnit axis (replicate n false) (replicate n place)
+  none-listed zero place = tt
+  none-listed (suc n) place = ((λ e. absurd (false≢true e)), none-listed n place)
+
+-- a place whose pull is not negative
+abbrev GoodPlace : Place → Type 0
+GoodPlace place = NotNegative (place .pull)
 
 -- ---- `Tmesh::new`
 one-not-negative : NotNegative oneLiteral
@@ -100,6 +115,16 @@ corner-store weight h (suc (suc (suc (suc n)))) =
     past-end : GoodPoint blank
     past-end = four-sides _ _ _ _ _ _ tt tt tt tt (nan-fits binary64) (nan-fits binary64)
 
+fresh-pulls : (weight : Float) (bottomLeft bottomRight topRight topLeft : Position) (n : ℕ)
+    → NotNegative (pullOf (newTmesh weight bottomLeft bottomRight topRight topLeft) n)
+unfolding newTmesh
+fresh-pulls weight bottomLeft bottomRight topRight topLeft zero = one-not-negative
+fresh-pulls weight bottomLeft bottomRight topRight topLeft (suc zero) = one-not-negative
+fresh-pulls weight bottomLeft bottomRight topRight topLeft (suc (suc zero)) = one-not-negative
+fresh-pulls weight bottomLeft bottomRight topRight topLeft (suc (suc (suc zero))) = one-not-negative
+fresh-pulls weight bottomLeft bottomRight topRight topLeft (suc (suc (suc (suc n)))) =
+    replicate-case GoodPlace 124 n (unpulled origin) noPlace one-not-negative tt
+
 pub new-sound : (axis : Axis) (weight : Float) (bottomLeft bottomRight topRight topLeft : Position) → NotNegative weight
     → InUnit (coordinate axis bottomLeft) → InUnit (coordinate axis bottomRight) → InUnit (coordinate axis topRight) → InUnit (coordinate axis topLeft)
     → Sound axis (newTmesh weight bottomLeft bottomRight topRight topLeft)
@@ -108,7 +133,8 @@ new-sound axis weight bottomLeft bottomRight topRight topLeft h a b c d =
     record {
       mesh = corner-store weight h;
       rows = λ n. replicate-case GoodKnots 128 n blankKnots noKnots blank-knots no-knots;
-      points = ((λ _. a), ((λ _. b), ((λ _. c), ((λ _. d), none-listed axis 124 origin))));
+      points = ((λ _. a), ((λ _. b), ((λ _. c), ((λ _. d), none-listed axis 124 (unpulled origin)))));
+      pulls = fresh-pulls weight bottomLeft bottomRight topRight topLeft;
     }
 
 -- ---- insertion
@@ -125,16 +151,19 @@ insertion-sound axis e map sound con d ratio position =
     next = storeOf map .made
 
     listing : (now : Bool) → (now ≡ true → InUnit (coordinate axis position))
-        → ListedInUnit axis (set (map .mesh .listed) next now) (set (map .mesh .positions) next position)
-    listing now h = placed axis (map .mesh .listed) (map .mesh .positions) next now position h (sound .points)
+        → ListedInUnit axis (set (map .mesh .listed) next now) (set (map .mesh .places) next (unpulled position))
+    listing now h = placed axis (map .mesh .listed) (map .mesh .places) next now (unpulled position) h (sound .points)
+
+    pulls : (n : ℕ) → GoodPlace (getD (set (map .mesh .places) next (unpulled position)) n noPlace)
+    pulls n = set-case GoodPlace (map .mesh .places) next n (unpulled position) noPlace one-not-negative (sound .pulls n)
 
     by-answer : (answer : InsertAnswer) (store : Store) → GoodStore store
         → ((opened links : ℕ) → answer ≡ Done opened links → InUnit (coordinate axis position))
         → Sound axis (afterInsertion map position answer store)
     by-answer (Done opened links) store good h =
-        record { mesh = good; rows = sound .rows; points = listing true (λ _. h opened links refl) }
+        record { mesh = good; rows = sound .rows; points = listing true (λ _. h opened links refl); pulls = pulls }
     by-answer (Torn opened links) store good h =
-        record { mesh = good; rows = sound .rows; points = listing false (λ e. absurd (false≢true e)) }
+        record { mesh = good; rows = sound .rows; points = listing false (λ e. absurd (false≢true e)); pulls = pulls }
     by-answer (Refused refusal) store good h = sound
 
 -- ---- evaluation
@@ -143,26 +172,27 @@ module _ (axis : Axis) (map : Tmesh) (sound : Sound axis map) (s t : Float) wher
   entry-admitted n e =
       let b = formula binary64Arithmetic s (knots (knotsOf map n .s)) in
       let c = formula binary64Arithmetic t (knots (knotsOf map n .t)) in
-      let k = listed-at axis (map .mesh .listed) (map .mesh .positions) n (sound .points) e in
+      let k = listed-at axis (map .mesh .listed) (map .mesh .places) n (sound .points) e in
+      let basis≥0 = nonnegOrNan-mul binary64 b c (sound .rows n .in-s s) (sound .rows n .in-t t) in
       record {
         value≥0 = k .0;
         value≤1 = k .1;
-        weight≥0 = nonnegOrNan-mul binary64 b c (sound .rows n .in-s s) (sound .rows n .in-t t);
-        weight-fits = mul-fits binary64 b c;
+        weight≥0 = nonnegOrNan-mul binary64 (basisOf map s t n) (pullOf map n) basis≥0 (sound .pulls n);
+        weight-fits = mul-fits binary64 (basisOf map s t n) (pullOf map n);
       }
 
   sums-bounded : (left n : ℕ) (numerator denominator : Float) → Bounded numerator denominator
-      → Bounded (sumFrom map (shareOf axis map s t) left n numerator) (sumFrom map (weightOf map s t) left n denominator)
+      → Bounded (sumFrom map (shareWith (weightOf map s t) axis map) left n numerator) (sumFrom map (weightOf map s t) left n denominator)
   unfolding sumFrom
   sums-bounded zero n numerator denominator h = h
   sums-bounded (suc left) n numerator denominator h = sums-bounded left (n + 1) _ _ (by-test (isListed map n) refl)
     where
       by-test : (b : Bool) → isListed map n ≡ b
-          → Bounded (cond b (add binary64 numerator (shareOf axis map s t n)) numerator) (cond b (add binary64 denominator (weightOf map s t n)) denominator)
+          → Bounded (cond b (add binary64 numerator (shareWith (weightOf map s t) axis map n)) numerator) (cond b (add binary64 denominator (weightOf map s t n)) denominator)
       by-test true e = step numerator denominator (coordinate axis (positionOf map n), weightOf map s t n) (entry-admitted n e) h
       by-test false e = h
 
-  mean-in-unit : T (lt 0f (totalWeight map s t)) → T (lt (totalWeight map s t) (inf false)) → InUnit (meanOn axis map s t)
+  mean-in-unit : T (lt 0f (totalWeight map s t)) → T (lt (totalWeight map s t) (inf false)) → InUnit (meanWith (weightOf map s t) axis map)
   mean-in-unit = finish _ _ (sums-bounded 128 0 zeroLiteral zeroLiteral (rw literal-zero start))
 
 value-in-unit : (axis : Axis) (map : Tmesh) → Sound axis map → (s t : Float) → AnswerInUnit axis (evaluated (Is (valueOf map s t)))
@@ -182,7 +212,7 @@ with-knots axis e map sound =
     SoundMap generated = Sound axis (generated .map)
 
     kept : (rows : AllKnots) → OfRows GoodRows rows → Sound axis (keeping map rows .map)
-    kept (all rows) h = record { mesh = sound .mesh; rows = h; points = sound .points }
+    kept (all rows) h = record { mesh = sound .mesh; rows = h; points = sound .points; pulls = sound .pulls }
     kept (none refusal) h = sound
 
 pub evaluation-sound : (axis : Axis) (e : Float) (map : Tmesh) → Sound axis map → (s t : Float)
@@ -199,3 +229,20 @@ evaluation-sound axis e map sound s t = by-outcome (withKnots e map .outcome) (w
 pub question-sound : (axis : Axis) (e : Float) (map : Tmesh) → Sound axis map → (cell : ℕ) → Sound axis (cellPoints e map cell .map)
 unfolding cellPoints
 question-sound axis e map sound cell = with-knots axis e map sound
+
+-- ---- a setting of a pull
+can-not-negative : (pull : Float) → canPull pull ≡ true → NotNegative pull
+can-not-negative pull can =
+    nonneg→nonnegOrNan pull
+    (le→nonneg pull (subst (λ (zero : Float). T (le zero pull)) literal-zero (subst T (sym (and-both (le zeroLiteral pull) (lt pull (inf false)) can .0)) tt)))
+
+pub pulling-sound : (axis : Axis) (map : Tmesh) → Sound axis map → (n : ℕ) (pull : Float) → Sound axis (setPull map n pull .map)
+pulling-sound axis map sound n pull =
+    pulled-case map n pull (Sound axis) sound
+    (λ made can.
+    record {
+      mesh = sound .mesh;
+      rows = sound .rows;
+      points = pulled-at axis (map .mesh .listed) (map .mesh .places) n pull (sound .points);
+      pulls = λ m. set-case GoodPlace (map .mesh .places) n m _ noPlace (can-not-negative pull can) (sound .pulls m);
+    })
