@@ -7,10 +7,11 @@ use mathlib.Core.List.{List, [], _∷_, map}
 use native.Mathlib.Omega.{arith}
 use borrow.Author.Tests.{eqb-true, eqb-false}
 use lib.Dec.{eqb}
-use lib.Ieee.{Float, binary64, add}
+use lib.Ieee.{Float, nan}
 use lib.ListN.{length, getD, set, length-set}
 use lib.Seq.{getD-set-same, getD-set-other}
-use Rattle.float64.specs.Literals.{zeroLiteral}
+use Rattle.float64.specs.Literals.{zeroLiteral, oneLiteral}
+use Rattle.control_point.specs.Point.{isMade}
 use Rattle.control_point.specs.Told.{Told, outcomeTold}
 use Rattle.control_point.specs.declared.refusal.Outcome.{Outcome}
 use Rattle.control_point.specs.declared.refusal.Outcome.the-variants.{Done, Refused as NotBuilt}
@@ -31,35 +32,40 @@ use Rattle.insertion.specs.declared.insertion.InsertAnswer.{InsertAnswer}
 use Rattle.insertion.specs.declared.insertion.InsertAnswer.the-variants.{Done as Added, Torn, Refused as NotAdded}
 use Rattle.insertion.specs.declared.insertion.Inserted.{Inserted}
 use Rattle.t_mesh.specs.Insertion.{afterInsertion, answered, addControlPoint, addedBy, addByRule}
-use Rattle.t_mesh.specs.Tmesh.{storeOf, isListed, newTmesh}
+use Rattle.t_mesh.specs.Tmesh.{unpulled, noPlace, placeOf, pullOf, storeOf, isListed, newTmesh}
 use Rattle.t_mesh.specs.declared.t_mesh.Mesh.{Mesh}
+use Rattle.t_mesh.specs.declared.t_mesh.Place.{Place}
 use Rattle.t_mesh.specs.declared.t_mesh.Position.{Position}
 use Rattle.t_mesh.specs.declared.t_mesh.Tmesh.{Tmesh}
 use Rattle.knot_vectors.specs.Knots.{AllKnots, all, none, onAll, inRow, withRow, rowsFrom, allKnots, keeping, generateKnotVectors}
 use Rattle.knot_vectors.specs.declared.knots.Generated.{Generated}
-use Rattle.surface.specs.Evaluation.{evaluationTold, evaluationNumber, knotsOf, weightBy, weightOf, sumFrom, totalWeight, valueOf, answerBy, withKnots, subsOf, weighty, setPoint, asSetPoint}
+use Rattle.pull.specs.Pull.{canPull, repulled, withPull, pulledBy, setPull}
+use Rattle.pull.specs.declared.Pulled.{Pulled}
+use Rattle.surface.specs.Evaluation.{evaluationTold, evaluationNumber, knotsOf, weightBy, weightOf, totalWeight, valueOf, answerBy, withKnots, subsOf, weighty, setPoint, asSetPoint}
+use Rattle.surface.specs.EvaluationLaws.{ready-mesh, total-alike as totals-agree}
 use Rattle.surface.specs.declared.evaluation.Evaluation.{Evaluation}
 use Rattle.surface.specs.declared.evaluation.EvaluationAnswer.the-variants.{Is, Refused}
 use Rattle.cells.specs.Cells.{cellTold, cellAnswerBy, cellPoints}
-use Rattle.calls.specs.Calls.{insertion, evaluation, question}
-use Rattle.soundness.specs.Alike.{Alike, callWithout, valueWithout, toldWithout, allToldWithout, Same, AlikeMaps, AlikeLists}
+use Rattle.calls.specs.Calls.{insertion, evaluation, question, pulling}
+use Rattle.soundness.specs.Alike.{pullsOf, Alike, callWithout, valueWithout, toldWithout, allToldWithout, Same, AlikeMaps, AlikeLists}
 use Rattle.soundness.specs.InsertionLaws.{Grown}
 use Rattle.soundness.specs.KeptLaws.{SoundMap, ready, map-call, map-fresh, every-map-sound}
 use Rattle.soundness.specs.MapCalls.{MapCall, entry, generate-knot-vectors, point-knot-vectors, cast-ray, direct, afterCall, mapAfterAll}
-use Rattle.soundness.specs.MapLaws.{listing-torn, insertion-grown, ready-mesh}
+use Rattle.soundness.specs.MapLaws.{listing-torn, insertion-grown}
 
 -- ---- the relation
 listed-too : (one other : Tmesh) → Alike one other → (n : ℕ) → isListed one n ≡ isListed other n
 listed-too one other alike n = ap (λ (listed : List Bool). getD listed n false) (alike .listing)
 
 itself : (one : Tmesh) → Alike one one
-itself one = record { store = refl; listing = refl; kept = refl; knots = λ _ _ _. refl }
+itself one = record { store = refl; listing = refl; pulls = refl; kept = refl; knots = λ _ _ _. refl }
 
 turned : (one other : Tmesh) → Alike one other → Alike other one
 turned one other alike =
     record {
       store = sym (alike .store);
       listing = sym (alike .listing);
+      pulls = sym (alike .pulls);
       kept = sym (alike .kept);
       knots = λ kept n listed. sym (alike .knots (alike .kept ∙ kept) n (listed-too one other alike n ∙ listed));
     }
@@ -69,10 +75,28 @@ joined one other third alike more =
     record {
       store = alike .store ∙ more .store;
       listing = alike .listing ∙ more .listing;
+      pulls = alike .pulls ∙ more .pulls;
       kept = alike .kept ∙ more .kept;
       knots = λ kept n listed.
           alike .knots kept n listed ∙ more .knots (sym (alike .kept) ∙ kept) n (sym (listed-too one other alike n) ∙ listed);
     }
+
+-- ---- pulls
+-- with another place stored
+pulls-with : (places : List Place) (n : ℕ) (place : Place) → map (λ (own : Place). own .pull) (set places n place) ≡ set (map (λ (own : Place). own .pull) places) n (place .pull)
+pulls-with [] n place = refl
+pulls-with (p ∷ places) zero place = refl
+pulls-with (p ∷ places) (suc n) place = ap (λ (pulls : List Float). p .pull ∷ pulls) (pulls-with places n place)
+
+-- at a number
+pull-at : (places : List Place) (n : ℕ) → getD (map (λ (own : Place). own .pull) places) n nan ≡ getD places n noPlace .pull
+pull-at [] n = refl
+pull-at (p ∷ places) zero = refl
+pull-at (p ∷ places) (suc n) = pull-at places n
+
+pulls-too : (one other : Tmesh) → Alike one other → (n : ℕ) → pullOf one n ≡ pullOf other n
+pulls-too one other alike n =
+    sym (pull-at (one .mesh .places) n) ∙ ap (λ (pulls : List Float). getD pulls n nan) (alike .pulls) ∙ pull-at (other .mesh .places) n
 
 -- ---- what is told of an evaluation and of a question, by the outcome of the building
 value-told : (outcome : Outcome) (value also : Evaluation) → (outcome ≡ Done → value .weight ≡ also .weight)
@@ -182,8 +206,16 @@ module _ (one other : Tmesh) (sound : SoundMap one) (sound′ : SoundMap other) 
     AlikeBuilt built built′ = (built .outcome ≡ built′ .outcome) × Alike (built .map) (built′ .map)
 
     keeping-alike : (knots knots′ : AllKnots) → Both 128 knots knots′ → AlikeBuilt (keeping one knots) (keeping other knots′)
-    keeping-alike (all rows) (all rows′) both =
-        (refl, record { store = alike .store; listing = alike .listing; kept = refl; knots = λ _ n listed. both .same n listed (listed-room n listed) })
+    keeping-alike (all rows) (all rows′) both = (
+      refl,
+      record {
+        store = alike .store;
+        listing = alike .listing;
+        pulls = alike .pulls;
+        kept = refl;
+        knots = λ _ n listed. both .same n listed (listed-room n listed);
+      },
+    )
     keeping-alike (all rows) (none refusal) both = absurd both
     keeping-alike (none refusal) (all rows′) both = absurd both
     keeping-alike (none refusal) (none refusal′) both = (ap NotBuilt both, alike)
@@ -232,24 +264,11 @@ module _ (one other : Tmesh) (sound : SoundMap one) (sound′ : SoundMap other) 
 
       module _ (s t : Float) where
         weight-alike : (n : ℕ) → isListed own n ≡ true → weightOf own s t n ≡ weightOf own′ s t n
-        weight-alike n listed = ap (λ (knots : PointKnots). weightBy knots s t) (knots-alike n listed)
-
-        sum-alike : (left n : ℕ) (sum : Float) → sumFrom own (weightOf own s t) left n sum ≡ sumFrom own′ (weightOf own′ s t) left n sum
-        unfolding sumFrom
-        sum-alike zero n sum = refl
-        sum-alike (suc left) n sum =
-            ap (λ (more : Float). sumFrom own (weightOf own s t) left (n + 1) more)
-            (by-test (isListed own n) refl
-            ∙ ap (λ (listed : Bool). cond listed (add binary64 sum (weightOf own′ s t n)) sum) (listed-too own own′ (ready-alike .1) n))
-            ∙ sum-alike left (n + 1) (cond (isListed own′ n) (add binary64 sum (weightOf own′ s t n)) sum)
-          where
-            by-test : (b : Bool) → isListed own n ≡ b
-                → cond b (add binary64 sum (weightOf own s t n)) sum ≡ cond b (add binary64 sum (weightOf own′ s t n)) sum
-            by-test true listed = ap (add binary64 sum) (weight-alike n listed)
-            by-test false listed = refl
+        weight-alike n listed = ap₂ (λ (knots : PointKnots) (pull : Float). weightBy knots pull s t) (knots-alike n listed) (pulls-too own own′ (ready-alike .1) n)
 
         total-alike : totalWeight own s t ≡ totalWeight own′ s t
-        total-alike = sum-alike 128 0 zeroLiteral
+        total-alike =
+            totals-agree own own′ (λ n _. listed-too own own′ (ready-alike .1) n) (weightOf own s t) (weightOf own′ s t) (λ n _ listed. weight-alike n listed)
 
     -- ---- the answers of an evaluation and of a question
     weighs : (s t : Float) → withKnots e one .outcome ≡ Done → valueOf own s t .weight ≡ valueOf own′ s t .weight
@@ -284,14 +303,24 @@ module _ (one other : Tmesh) (sound : SoundMap one) (sound′ : SoundMap other) 
       placed-too : (lists : Bool) → set (one .mesh .listed) (storeOf one .made) lists ≡ set (other .mesh .listed) (storeOf other .made) lists
       placed-too lists = ap₂ (λ (store : Store) (listed : List Bool). set listed (store .made) lists) (alike .store) (alike .listing)
 
+      -- the new point's pull is 1.0 in both
+      unpulled-too : (position position′ : Position)
+          → map (λ (own : Place). own .pull) (set (one .mesh .places) (storeOf one .made) (unpulled position))
+          ≡ map (λ (own : Place). own .pull) (set (other .mesh .places) (storeOf other .made) (unpulled position′))
+      unpulled-too position position′ =
+          pulls-with (one .mesh .places) (storeOf one .made) (unpulled position)
+          ∙ ap₂ (λ (store : Store) (pulls : List Float). set pulls (store .made) oneLiteral) (alike .store) (alike .pulls)
+          ∙ sym (pulls-with (other .mesh .places) (storeOf other .made) (unpulled position′))
+
       by-answer : (position position′ : Position) (answer : InsertAnswer) (store : Store) → (isRefused answer ≡ false → Grown (storeOf one) store)
           → Alike (afterInsertion one position answer store) (afterInsertion other position′ answer store)
       by-answer position position′ (Added opened inferred) store grown =
-          record { store = refl; listing = placed-too true; kept = refl; knots = λ kept n listed. absurd (false≢true kept) }
+          record { store = refl; listing = placed-too true; pulls = unpulled-too position position′; kept = refl; knots = λ kept n listed. absurd (false≢true kept) }
       by-answer position position′ (Torn opened inferred) store grown =
           record {
             store = refl;
             listing = placed-too false;
+            pulls = unpulled-too position position′;
             kept = alike .kept;
             knots = λ kept n listed.
                 alike .knots kept n
@@ -314,12 +343,34 @@ module _ (one other : Tmesh) (sound : SoundMap one) (sound′ : SoundMap other) 
           (by-withdrawn (isWithdrawn withdraws (result .answer)) _ _
           (by-answer position position′ (result .answer) (result .store) (insertion-grown one (sound .mesh) e con d ratio)))
 
+    -- ---- a setting of a pull
+    abbrev AlikeSet : Pulled → Pulled → Type 0
+    AlikeSet set set′ = (set .outcome ≡ set′ .outcome) × Alike (set .map) (set′ .map)
+
+    pulled-alike : (n : ℕ) (pull : Float) → AlikeSet (setPull one n pull) (setPull other n pull)
+    unfolding setPull
+    pulled-alike n pull =
+        subst (λ (store : Store). AlikeSet (setPull one n pull) (pulledBy (isMade (store .made) n) (canPull pull) other n pull)) (alike .store)
+        (by-tests (isMade (storeOf one .made) n) (canPull pull))
+      where
+        repulled-too : pullsOf (withPull one n pull) ≡ pullsOf (withPull other n pull)
+        repulled-too =
+            pulls-with (one .mesh .places) n (repulled (placeOf one n) pull)
+            ∙ ap (λ (pulls : List Float). set pulls n pull) (alike .pulls)
+            ∙ sym (pulls-with (other .mesh .places) n (repulled (placeOf other n) pull))
+
+        by-tests : (made can : Bool) → AlikeSet (pulledBy made can one n pull) (pulledBy made can other n pull)
+        by-tests true true = (refl, record { store = alike .store; listing = alike .listing; pulls = repulled-too; kept = alike .kept; knots = alike .knots })
+        by-tests true false = (refl, alike)
+        by-tests false can = (refl, alike)
+
     -- ---- any call, the second time without its position
     told-alike : (call : MapCall) → toldWithout e one call ≡ toldWithout e other (callWithout call)
     unfolding addControlPoint
     told-alike (entry (insertion withdraws con d ratio position)) = ap (λ (result : Inserted). insertTold (result .answer)) (inserted-too con d ratio)
     told-alike (entry (evaluation s t)) = ap evaluationTold (evaluated-alike s t)
     told-alike (entry (question cell)) = ap cellTold (cell-alike cell)
+    told-alike (entry (pulling n pull)) = ap outcomeTold (pulled-alike n pull .0)
     told-alike generate-knot-vectors = ap outcomeTold (generated-alike .0)
     told-alike (point-knot-vectors n) = ap (λ (store : Store). knotsTold (pointKnotVectors e store n)) (alike .store)
     told-alike (cast-ray n d buffer) = ap (λ (store : Store). castTold (castRay e store n d buffer)) (alike .store)
@@ -330,6 +381,7 @@ module _ (one other : Tmesh) (sound : SoundMap one) (sound′ : SoundMap other) 
     after-alike (entry (insertion withdraws con d ratio position)) = inserted-alike con d ratio withdraws position _
     after-alike (entry (evaluation s t)) = ready-alike .1
     after-alike (entry (question cell)) = ready-alike .1
+    after-alike (entry (pulling n pull)) = pulled-alike n pull .1
     after-alike generate-knot-vectors = generated-alike .1
     after-alike (point-knot-vectors n) = alike
     after-alike (cast-ray n d buffer) = alike
@@ -337,6 +389,7 @@ module _ (one other : Tmesh) (sound : SoundMap one) (sound′ : SoundMap other) 
         record {
           store = ap (λ (store : Store). callStore store call) (alike .store);
           listing = alike .listing;
+          pulls = alike .pulls;
           kept = alike .kept;
           knots = alike .knots;
         }
@@ -368,7 +421,7 @@ same one other sound sound′ alike =
       indices = λ e done. index-alike one other sound sound′ alike e done;
       weights = λ e done s t n listed.
           weight-alike one other sound sound′ alike e done s t n
-          (ap (λ (mesh : Mesh). getD (mesh .listed) n false) (ready-mesh one (sound .mesh) e) ∙ listed);
+          (ap (λ (mesh : Mesh). getD (mesh .listed) n false) (ready-mesh e one) ∙ listed);
       totals = λ e done s t. total-alike one other sound sound′ alike e done s t;
       set-points = λ e s t. set-point-alike one other sound sound′ alike e s t;
       cells = λ e cell. cell-alike one other sound sound′ alike e cell;
@@ -404,4 +457,4 @@ alike-lists e weight a b c d a′ b′ c′ d′ calls also h =
     (shared .list-answers e calls also h, shared .list-after e calls also h)
   where
     fresh : Alike (newTmesh weight a b c d) (newTmesh weight a′ b′ c′ d′)
-    fresh = unfold newTmesh in record { store = refl; listing = refl; kept = refl; knots = λ kept n listed. absurd (false≢true kept) }
+    fresh = unfold newTmesh in record { store = refl; listing = refl; pulls = refl; kept = refl; knots = λ kept n listed. absurd (false≢true kept) }

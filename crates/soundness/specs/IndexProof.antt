@@ -12,6 +12,7 @@ use Rattle.grid_index.specs.declared.Index.{Index}
 use Rattle.grid_index.specs.CellTheorem.{Says}
 use Rattle.grid_index.specs.CellProof.{every-cell-says}
 use Rattle.surface.specs.Evaluation.{withKnots}
+use Rattle.surface.specs.EvaluationLaws.{ready-mesh}
 use Rattle.cells.specs.Cells.{cellAnswerBy, cellPoints}
 use Rattle.cells.specs.declared.CellAnswer.{CellAnswer}
 use Rattle.cells.specs.declared.CellAnswer.the-variants.{Is, Refused as NoWords}
@@ -19,7 +20,6 @@ use Rattle.t_mesh.specs.declared.t_mesh.Mesh.{Mesh}
 use Rattle.t_mesh.specs.declared.t_mesh.Tmesh.{Tmesh}
 use Rattle.soundness.specs.IndexTheorem.{KeptIndexIsOfKnots, EveryAnswerSays}
 use Rattle.soundness.specs.KeptLaws.{SoundMap, ready, every-map-sound}
-use Rattle.soundness.specs.MapLaws.{ready-mesh}
 
 pub kept-index-is-of-knots : KeptIndexIsOfKnots
 kept-index-is-of-knots e weight bottomLeft bottomRight topRight topLeft calls =
@@ -46,7 +46,7 @@ answer-says map sound e cell words h is =
     let own = withKnots e map .map in
     let ready-map = ready map sound e in
     let those = words-are (withKnots e map .outcome) (cellOf (own .index) cell) words is in
-    let same = ap (λ (mesh : Mesh). mesh .listed) (ready-mesh map (sound .mesh) e) in
+    let same = ap (λ (mesh : Mesh). mesh .listed) (ready-mesh e map) in
     let index : own .index ≡ indexOf (map .mesh .listed) (own .knots) =
     ready-map .0 .index (ready-map .1 (those .0)) ∙ ap (λ (listed : List Bool). indexOf listed (own .knots)) same in
     subst (Says (map .mesh .listed) (own .knots) cell) (ap (λ (kept : Index). cellOf kept cell) (sym index) ∙ those .1)

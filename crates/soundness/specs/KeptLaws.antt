@@ -34,14 +34,15 @@ use Rattle.t_mesh.specs.Insertion.{afterInsertion, addControlPoint}
 use Rattle.t_mesh.specs.Tmesh.{storeOf, isListed, blankKnots, newTmesh}
 use Rattle.t_mesh.specs.declared.t_mesh.Position.{Position}
 use Rattle.t_mesh.specs.declared.t_mesh.Tmesh.{Tmesh}
-use Rattle.calls.specs.Calls.{insertion, evaluation, question}
+use Rattle.calls.specs.Calls.{insertion, evaluation, question, pulling}
 use Rattle.calls.specs.ListLaws.{set-case, replicate-case}
+use Rattle.calls.specs.PullingLaws.{pulled-case}
 use Rattle.calls.specs.RowsLaws.{OfRows, all-rows}
 use Rattle.calls.specs.WithdrawalLaws.{by-either-rule}
 use Rattle.soundness.specs.FreshLaws.{sound-fresh}
 use Rattle.soundness.specs.InsertionLaws.{Grown}
 use Rattle.soundness.specs.MapCalls.{MapCall, entry, generate-knot-vectors, point-knot-vectors, cast-ray, direct, afterCall, mapAfterAll}
-use Rattle.soundness.specs.MapLaws.{SoundMesh, listing-torn, insertion-grown, insertion-sound, sound-call}
+use Rattle.soundness.specs.MapLaws.{SoundMesh, listing-torn, insertion-grown, insertion-sound, repulled-sound, sound-call}
 use Rattle.soundness.specs.Theorems.{EveryMap}
 
 -- ---- rows of knots
@@ -142,6 +143,8 @@ module _ (map : Tmesh) (sound : SoundMap map) where
       by-either-rule SoundMap withdraws e map con d ratio position sound (inserted-map e con d ratio position)
   map-call e (entry (evaluation s t)) = ready e .0
   map-call e (entry (question cell)) = ready e .0
+  map-call e (entry (pulling n pull)) =
+      pulled-case map n pull SoundMap sound (λ _ _. record { mesh = repulled-sound map (sound .mesh) n pull; rows = sound .rows; index = sound .index })
   map-call e generate-knot-vectors = generated-ready e .0
   map-call e (point-knot-vectors n) = sound
   map-call e (cast-ray n d buffer) = sound

@@ -32,10 +32,11 @@ use Rattle.knot_vectors.specs.Knots.{AllKnots, all, none, keeping, allKnots, ge
 use Rattle.knot_vectors.specs.declared.knots.Generated.{Generated}
 use Rattle.surface.specs.Evaluation.{withKnots, subsOf}
 use Rattle.cells.specs.Cells.{cellPoints}
-use Rattle.calls.specs.Calls.{Call, insertion, evaluation, question, mapAfter}
+use Rattle.calls.specs.Calls.{Call, insertion, evaluation, question, pulling, mapAfter}
 use Rattle.calls.specs.Good.{NotNegative, GoodStore, GoodEntries, GoodRay}
 use Rattle.calls.specs.GoodLaws.{store-sides, point-inserted}
 use Rattle.calls.specs.GoodKnotsLaws.{ray-entries}
+use Rattle.calls.specs.PullingLaws.{pulled-case}
 use Rattle.calls.specs.SoundLaws.{corner-store}
 use Rattle.calls.specs.WithdrawalLaws.{by-either-rule}
 use Rattle.soundness.specs.KnotsPass.{Passes, BothPass, KnotsPass}
@@ -147,6 +148,7 @@ good-call e map good (insertion withdraws con d ratio position) =
     by-either-rule (λ after. GoodStore (storeOf after)) withdraws e map con d ratio position good (good-inserted e map good con d ratio position)
 good-call e map good (evaluation s t) = good-ready e map good
 good-call e map good (question cell) = good-ready e map good
+good-call e map good (pulling n pull) = pulled-case map n pull (λ after. GoodStore (storeOf after)) good (λ _ _. good)
 
 good-list : (e : Float) (calls : List Call) (map : Tmesh) → GoodStore (storeOf map) → GoodStore (storeOf (mapAfterAll e map (entries calls)))
 unfolding mapAfterAll entries

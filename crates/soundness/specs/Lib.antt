@@ -23,3 +23,5 @@ pub mod IndexTheorem
 pub mod IndexProof
 pub mod Alike
 pub mod AlikeProof
+pub mod Pulls
+pub mod PullsProof

@@ -28,7 +28,9 @@ use Rattle.t_mesh.specs.Tmesh.{meshStore, storeOf, isListed}
 use Rattle.t_mesh.specs.declared.t_mesh.Mesh.{Mesh}
 use Rattle.t_mesh.specs.declared.t_mesh.Position.{Position}
 use Rattle.t_mesh.specs.declared.t_mesh.Tmesh.{Tmesh}
+use Rattle.pull.specs.Pull.{withPull}
 use Rattle.surface.specs.Evaluation.{valueOf, answerBy, withKnots, subsOf}
+use Rattle.surface.specs.EvaluationLaws.{ready-mesh}
 use Rattle.knot_vectors.specs.Knots.{AllKnots, all, none, onAll, inRow, withRow, rowsFrom, allKnots, keeping, generateKnotVectors}
 use Rattle.surface.specs.declared.evaluation.Evaluation.{Evaluation}
 use Rattle.surface.specs.declared.evaluation.EvaluationAnswer.{EvaluationAnswer}
@@ -39,7 +41,8 @@ use Rattle.cells.specs.declared.CellAnswer.{CellAnswer}
 use Rattle.cells.specs.declared.CellAnswer.the-variants.{Is as Words, Refused as NoWords}
 use Rattle.grid_index.specs.Index.{cellOf}
 use Rattle.grid_index.specs.declared.Cell.{Cell}
-use Rattle.calls.specs.Calls.{insertion, evaluation, question}
+use Rattle.calls.specs.Calls.{insertion, evaluation, question, pulling}
+use Rattle.calls.specs.PullingLaws.{pulled-case}
 use Rattle.calls.specs.WithdrawalLaws.{by-either-rule}
 use Rattle.mirror.specs.EveryListMirroredProof.{sound-call as sound-direct}
 use Rattle.soundness.specs.DirectLaws.{call-grows}
@@ -69,6 +72,15 @@ KnownQuestion (NoWords refusal) = Met refusal
 abbrev KnownAll : AllKnots → Type 0
 KnownAll (all rows) = Unit {0}
 KnownAll (none refusal) = Met refusal
+
+-- the building of all knots leaves the mesh
+pub generated-mesh : (e : Float) (map : Tmesh) → generateKnotVectors e map .map .mesh ≡ map .mesh
+unfolding generateKnotVectors
+generated-mesh e map = by-rows (allKnots e map)
+  where
+    by-rows : (rows : AllKnots) → keeping map rows .map .mesh ≡ map .mesh
+    by-rows (all rows) = refl
+    by-rows (none refusal) = refl
 
 module _ (map : Tmesh) (mesh-sound : SoundMesh (map .mesh)) where
   -- ---- an insertion
@@ -204,27 +216,21 @@ module _ (map : Tmesh) (mesh-sound : SoundMesh (map .mesh)) where
     known-rows zero n rows = tt
     known-rows (suc left) n rows = on-all (withRow e map n rows) _ (known-listed n rows) (λ filled. known-rows left (n + 1) filled)
 
-    -- knots built or kept: refused 3, 4 or 9 if refused, and the mesh is as it was
-    abbrev Keeps : Generated → Type 0
-    Keeps generated = MetOutcome (generated .outcome) × (generated .map .mesh ≡ map .mesh)
+    -- knots built or kept: refused 3, 4 or 9 if refused
+    abbrev KnownBuilt : Generated → Type 0
+    KnownBuilt generated = MetOutcome (generated .outcome)
 
-    keeps-all : (knots : AllKnots) → KnownAll knots → Keeps (keeping map knots)
-    keeps-all (all rows) known = (tt, refl)
-    keeps-all (none refusal) known = (known, refl)
+    known-built : (knots : AllKnots) → KnownAll knots → KnownBuilt (keeping map knots)
+    known-built (all rows) known = tt
+    known-built (none refusal) known = known
 
-    generates : Keeps (generateKnotVectors e map)
+    pub generation-known : KnownBuilt (generateKnotVectors e map)
     unfolding generateKnotVectors allKnots
-    generates = keeps-all (rowsFrom e map 128 0 (map .knots)) (known-rows 128 0 (map .knots))
+    generation-known = known-built (rowsFrom e map 128 0 (map .knots)) (known-rows 128 0 (map .knots))
 
-    pub generation-known : MetOutcome (generateKnotVectors e map .outcome)
-    generation-known = generates .0
-
-    keeps : Keeps (withKnots e map)
+    ready-known : KnownBuilt (withKnots e map)
     unfolding withKnots
-    keeps = cond-case (map .kept) Keeps _ _ (λ k. (tt, refl)) (λ k. generates)
-
-    pub ready-mesh : withKnots e map .map .mesh ≡ map .mesh
-    ready-mesh = keeps .1
+    ready-known = cond-case (map .kept) KnownBuilt _ _ (λ k. tt) (λ k. generation-known)
 
     known-answer : (outcome : Outcome) (value : Evaluation) → MetOutcome outcome → KnownEvaluation (answerBy outcome value)
     known-answer Done value known = tt
@@ -232,7 +238,7 @@ module _ (map : Tmesh) (mesh-sound : SoundMesh (map .mesh)) where
 
     pub evaluation-known : (s t : Float) → KnownEvaluation (subsOf e map s t .answer)
     unfolding subsOf
-    evaluation-known s t = known-answer (withKnots e map .outcome) (valueOf (withKnots e map .map) s t) (keeps .0)
+    evaluation-known s t = known-answer (withKnots e map .outcome) (valueOf (withKnots e map .map) s t) ready-known
 
     known-words : (outcome : Outcome) (words : Cell) → MetOutcome outcome → KnownQuestion (cellAnswerBy outcome words)
     known-words Done words known = tt
@@ -240,16 +246,21 @@ module _ (map : Tmesh) (mesh-sound : SoundMesh (map .mesh)) where
 
     pub question-known : (cell : ℕ) → KnownQuestion (cellPoints e map cell .answer)
     unfolding cellPoints
-    question-known cell = known-words (withKnots e map .outcome) (cellOf (withKnots e map .map .index) cell) (keeps .0)
+    question-known cell = known-words (withKnots e map .outcome) (cellOf (withKnots e map .map .index) cell) ready-known
+
+  -- ---- a setting of a pull
+  pub repulled-sound : (n : ℕ) (pull : Float) → SoundMesh (withPull map n pull .mesh)
+  repulled-sound n pull = record { sound = mesh-sound .sound; room = mesh-sound .room; listed-made = mesh-sound .listed-made }
 
   -- ---- any call
   pub sound-call : (e : Float) (call : MapCall) → SoundMesh (afterCall e map call .mesh)
   unfolding subsOf cellPoints
   sound-call e (entry (insertion withdraws con d ratio position)) =
       by-either-rule (λ after. SoundMesh (after .mesh)) withdraws e map con d ratio position mesh-sound (insertion-sound e con d ratio position)
-  sound-call e (entry (evaluation s t)) = subst SoundMesh (sym (ready-mesh e)) mesh-sound
-  sound-call e (entry (question cell)) = subst SoundMesh (sym (ready-mesh e)) mesh-sound
-  sound-call e generate-knot-vectors = subst SoundMesh (sym (generates e .1)) mesh-sound
+  sound-call e (entry (evaluation s t)) = subst SoundMesh (sym (ready-mesh e map)) mesh-sound
+  sound-call e (entry (question cell)) = subst SoundMesh (sym (ready-mesh e map)) mesh-sound
+  sound-call e (entry (pulling n pull)) = pulled-case map n pull (λ after. SoundMesh (after .mesh)) mesh-sound (λ _ _. repulled-sound n pull)
+  sound-call e generate-knot-vectors = subst SoundMesh (sym (generated-mesh e map)) mesh-sound
   sound-call e (point-knot-vectors n) = mesh-sound
   sound-call e (cast-ray n d buffer) = mesh-sound
   sound-call e (direct call) =
@@ -263,9 +274,10 @@ module _ (map : Tmesh) (mesh-sound : SoundMesh (map .mesh)) where
       → isListed (afterCall e map call) n ≡ ((addsPoint e map call && eqb n (storeOf map .made)) || isListed map n)
   unfolding subsOf cellPoints
   listing-call e (entry (insertion withdraws con d ratio position)) n = insertion-lists-by e con d ratio position withdraws n
-  listing-call e (entry (evaluation s t)) n = ap (λ (mesh : Mesh). getD (mesh .listed) n false) (ready-mesh e)
-  listing-call e (entry (question cell)) n = ap (λ (mesh : Mesh). getD (mesh .listed) n false) (ready-mesh e)
-  listing-call e generate-knot-vectors n = ap (λ (mesh : Mesh). getD (mesh .listed) n false) (generates e .1)
+  listing-call e (entry (evaluation s t)) n = ap (λ (mesh : Mesh). getD (mesh .listed) n false) (ready-mesh e map)
+  listing-call e (entry (question cell)) n = ap (λ (mesh : Mesh). getD (mesh .listed) n false) (ready-mesh e map)
+  listing-call e (entry (pulling m pull)) n = pulled-case map m pull (λ after. isListed after n ≡ isListed map n) refl (λ _ _. refl)
+  listing-call e generate-knot-vectors n = ap (λ (mesh : Mesh). getD (mesh .listed) n false) (generated-mesh e map)
   listing-call e (point-knot-vectors m) n = refl
   listing-call e (cast-ray m d buffer) n = refl
   listing-call e (direct call) n = refl

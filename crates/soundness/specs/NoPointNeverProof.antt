@@ -1,6 +1,6 @@
 -- Each call tests the points that it is given before all else, and what it meets from made points on is made.
 use Prim.Native.Nat.{ℕ}
-use mathlib.Core.Path.{_≡_, refl, ap, _∙_}
+use mathlib.Core.Path.{_≡_, refl, sym, ap, _∙_}
 use mathlib.Core.Bool.{Bool, true, false, cond, not, _&&_}
 use mathlib.Core.List.{_++_}
 use lib.Dec.{ltb, eqb}
@@ -34,6 +34,7 @@ use Rattle.ray.specs.declared.knots.KnotsAnswer.{KnotsAnswer}
 use Rattle.t_mesh.specs.Insertion.{addControlPoint}
 use Rattle.t_mesh.specs.Tmesh.{storeOf}
 use Rattle.t_mesh.specs.declared.t_mesh.Tmesh.{Tmesh}
+use Rattle.pull.specs.declared.Pulled.{Pulled}
 use Rattle.knot_vectors.specs.Knots.{generateKnotVectors}
 use Rattle.surface.specs.Evaluation.{evaluationNumber, subsOf}
 use Rattle.surface.specs.declared.evaluation.EvaluationAnswer.{EvaluationAnswer}
@@ -41,7 +42,8 @@ use Rattle.surface.specs.declared.evaluation.EvaluationAnswer.the-variants.{Is,
 use Rattle.cells.specs.Cells.{cellNumber, cellPoints}
 use Rattle.cells.specs.declared.CellAnswer.{CellAnswer}
 use Rattle.cells.specs.declared.CellAnswer.the-variants.{Is as Words, Refused as NoWords}
-use Rattle.calls.specs.Calls.{insertion, evaluation, question}
+use Rattle.calls.specs.Calls.{insertion, evaluation, question, pulling}
+use Rattle.calls.specs.PullingLaws.{setting-case}
 use Rattle.soundness.specs.EveryMapProof.{of-sound}
 use Rattle.soundness.specs.InsertionLaws.{KnownAnswer}
 use Rattle.soundness.specs.KnownLaws.{MetOutcome, KnownOutcome, KnownWalk, met-known, known-walk, known-connectable}
@@ -187,6 +189,11 @@ unless-unmade map sound e (entry (insertion withdraws con d ratio position)) =
     answer-not (addControlPoint e map con d ratio position .answer) (insertion-known map sound e con d ratio position)
 unless-unmade map sound e (entry (evaluation s t)) = evaluation-not (subsOf e map s t .answer) (evaluation-known map sound e s t)
 unless-unmade map sound e (entry (question cell)) = question-not (cellPoints e map cell .answer) (question-known map sound e cell)
+unless-unmade map sound e (entry (pulling n pull)) =
+    setting-case map n pull (λ (set : Pulled). Unless (isMade (storeOf map .made) n) (outcomeNumber (set .outcome)))
+    (λ unmade. sym (ap not unmade))
+    (λ made _. sym (ap not made))
+    (λ made _. sym (ap not made))
 unless-unmade map sound e generate-knot-vectors = outcome-not (generateKnotVectors e map .outcome) (generation-known map sound e)
 unless-unmade map sound e (point-knot-vectors n) = knots-unless (storeOf map) (sound .sound) e n (isMade (storeOf map .made) n) refl
 unless-unmade map sound e (cast-ray n d buffer) = ray-unless (storeOf map) (sound .sound) e n d (length buffer) (isMade (storeOf map .made) n) refl

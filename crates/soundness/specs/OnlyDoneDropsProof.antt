@@ -15,7 +15,8 @@ use Rattle.t_mesh.specs.Tmesh.{storeOf, isListed}
 use Rattle.t_mesh.specs.declared.t_mesh.Position.{Position}
 use Rattle.t_mesh.specs.declared.t_mesh.Tmesh.{Tmesh}
 use Rattle.cells.specs.Cells.{cellPoints}
-use Rattle.calls.specs.Calls.{insertion, evaluation, question}
+use Rattle.calls.specs.Calls.{insertion, evaluation, question, pulling}
+use Rattle.calls.specs.PullingLaws.{pulled-case}
 use Rattle.calls.specs.WithdrawalLaws.{by-either-rule}
 use Rattle.mirror.specs.BoolLaws.{both-ways, cond-case}
 use Rattle.soundness.specs.MapCalls.{entry, generate-knot-vectors, point-knot-vectors, cast-ray, direct}
@@ -56,6 +57,8 @@ only-done-drops e map (entry (insertion withdraws con d ratio position)) k done 
     let same = keeps-inserted withdraws e map con d ratio position k done in (same .0, λ other. same .1)
 only-done-drops e map (entry (evaluation s t)) k done = (keeps e map k .0, λ other. keeps e map k .1)
 only-done-drops e map (entry (question cell)) k done = (keeps e map k .0, λ other. keeps e map k .1)
+only-done-drops e map (entry (pulling n pull)) k done =
+    let same = pulled-case map n pull (Keeps map) (k, (refl, refl)) (λ _ _. (k, (refl, refl))) in (same .0, λ other. same .1)
 only-done-drops e map generate-knot-vectors k done = (kept-built map (allKnots e map) k, λ other. absurd (other refl))
 only-done-drops e map (point-knot-vectors n) k done = (k, λ other. (refl, refl))
 only-done-drops e map (cast-ray n d buffer) k done = (k, λ other. (refl, refl))

@@ -20,10 +20,12 @@ use Rattle.t_mesh.specs.Insertion.{afterInsertion, addControlPoint}
 use Rattle.t_mesh.specs.Tmesh.{storeOf, withStore, isListed}
 use Rattle.t_mesh.specs.declared.t_mesh.Position.{Position}
 use Rattle.t_mesh.specs.declared.t_mesh.Tmesh.{Tmesh}
+use Rattle.pull.specs.declared.Pulled.{Pulled}
 use Rattle.cells.specs.Cells.{cellNumber, cellAnswerBy, cellPoints}
 use Rattle.grid_index.specs.Index.{cellOf}
 use Rattle.grid_index.specs.declared.Cell.{Cell}
-use Rattle.calls.specs.Calls.{insertion, evaluation, question}
+use Rattle.calls.specs.Calls.{insertion, evaluation, question, pulling}
+use Rattle.calls.specs.PullingLaws.{setting-case}
 use Rattle.soundness.specs.MapCalls.{entry, generate-knot-vectors, point-knot-vectors, cast-ray, direct}
 use Rattle.soundness.specs.Theorems.{RefusedKeepsMap}
 
@@ -66,6 +68,9 @@ refused-keeps-map e map (entry (evaluation s t)) done torn =
     keeps e map (λ built. done (number-by (withKnots e map .outcome) (valueOf (withKnots e map .map) s t) ∙ built))
 refused-keeps-map e map (entry (question cell)) done torn =
     keeps e map (λ built. done (words-by (withKnots e map .outcome) (cellOf (withKnots e map .map .index) cell) ∙ built))
+refused-keeps-map e map (entry (pulling n pull)) done torn =
+    setting-case map n pull (λ (set : Pulled). (outcomeNumber (set .outcome) ≡ 0 → ⊥) → set .map ≡ map) (λ _ _. refl) (λ _ _ _. refl)
+    (λ _ _ set. absurd (set refl)) done
 refused-keeps-map e map generate-knot-vectors done torn = keeps-built map (allKnots e map) done
 refused-keeps-map e map (point-knot-vectors n) done torn = refl
 refused-keeps-map e map (cast-ray n d buffer) done torn = refl
