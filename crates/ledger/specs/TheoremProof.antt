@@ -28,16 +28,18 @@ use Rattle.t_mesh.specs.declared.t_mesh.Mesh.{Mesh}
 use Rattle.t_mesh.specs.declared.t_mesh.Position.{Position}
 use Rattle.t_mesh.specs.declared.t_mesh.Tmesh.{Tmesh}
 use Rattle.surface.specs.Evaluation.{subsOf}
+use Rattle.surface.specs.EvaluationLaws.{ready-mesh}
 use Rattle.cells.specs.Cells.{cellPoints}
 use Rattle.census.specs.Census.{countsOf}
 use Rattle.census.specs.CensusLaws.{same-counts}
 use Rattle.openings.specs.Openings.{openingsOf}
 use Rattle.openings.specs.OpeningsLaws.{answer-count}
-use Rattle.calls.specs.Calls.{Call, insertion, evaluation, question, mapAfter, runOf}
+use Rattle.calls.specs.Calls.{Call, insertion, evaluation, question, pulling, mapAfter, runOf}
+use Rattle.calls.specs.PullingLaws.{pulled-case}
 use Rattle.soundness.specs.FreshLaws.{sound-fresh}
 use Rattle.soundness.specs.InsertionLaws.{Grown}
 use Rattle.soundness.specs.MapCalls.{entry, mapAfterAll, entries}
-use Rattle.soundness.specs.MapLaws.{SoundMesh, unlisted, insertion-grown, insertion-lists, ready-mesh, sound-call}
+use Rattle.soundness.specs.MapLaws.{SoundMesh, unlisted, insertion-grown, insertion-lists, sound-call}
 use Rattle.ledger.specs.Ledger.{madeBy, listedBy, openedBy, inferredBy, total, doneOrTorn, insertionsDone, sidesOpened, linksInferred, countsBy}
 use Rattle.ledger.specs.Theorem.{enteredAnswers, HasLedger, LedgerOfSides}
 use Rattle.ledger.specs.PriceLaws.{Price, worth}
@@ -127,6 +129,13 @@ answer-then false before inserted answer step rest = record { sound = rest .soun
 from-same : {before other after : Mesh} {answers : List InsertAnswer} → before ≡ other → Follows before answers after → Follows other answers after
 from-same {before} {other} {after} {answers} same ran = subst (λ (mesh : Mesh). Follows mesh answers after) same ran
 
+-- from the mesh after a setting of a pull, which has the store and the listing of the one before
+from-pulled : (e : Float) (map : Tmesh) (n : ℕ) (pull : Float) {after : Mesh} {answers : List InsertAnswer}
+    → Follows (mapAfter e map (pulling n pull) .mesh) answers after → Follows (map .mesh) answers after
+from-pulled e map n pull {after} {answers} =
+    pulled-case map n pull (λ own. Follows (own .mesh) answers after → Follows (map .mesh) answers after) (λ ran. ran)
+    (λ _ _ ran. record { sound = ran .sound; step = record { made-is = ran .step .made-is; listed-is = ran .step .listed-is; booked = ran .step .booked } })
+
 follows : (e : Float) (calls : List Call) (map : Tmesh) → SoundMesh (map .mesh)
     → Follows (map .mesh) (enteredAnswers (runOf e map calls)) (mapAfterAll e map (entries calls) .mesh)
 unfolding runOf mapAfterAll entries enteredAnswers total subsOf cellPoints
@@ -137,9 +146,11 @@ follows e (insertion withdraws con d ratio position ∷ calls) map sound =
     answer-then (isWithdrawn withdraws (added .answer)) map (added .map) (added .answer) (insertion-step map sound e con d ratio position)
     (follows e calls (mapAfter e map call) (sound-call map sound e (entry call)))
 follows e (evaluation s t ∷ calls) map sound =
-    from-same (ready-mesh map sound e) (follows e calls (mapAfter e map (evaluation s t)) (sound-call map sound e (entry (evaluation s t))))
+    from-same (ready-mesh e map) (follows e calls (mapAfter e map (evaluation s t)) (sound-call map sound e (entry (evaluation s t))))
 follows e (question cell ∷ calls) map sound =
-    from-same (ready-mesh map sound e) (follows e calls (mapAfter e map (question cell)) (sound-call map sound e (entry (question cell))))
+    from-same (ready-mesh e map) (follows e calls (mapAfter e map (question cell)) (sound-call map sound e (entry (question cell))))
+follows e (pulling n pull ∷ calls) map sound =
+    from-pulled e map n pull (follows e calls (mapAfter e map (pulling n pull)) (sound-call map sound e (entry (pulling n pull))))
 
 -- ---- the prices that count
 link-price : Prices (ahead isLink) 1 0 0
