@@ -24,14 +24,14 @@ use Rattle.control_point.specs.declared.refusal.Outcome.{Outcome}
 use Rattle.control_point.specs.declared.refusal.Outcome.the-variants.{Done, Refused as NotBuilt}
 use Rattle.control_point.specs.declared.refusal.Refusal.{Refusal}
 use Rattle.control_point.specs.declared.refusal.Refusal.the-variants.{Ratio, Foreign, OpenSide, BorderSide, Taken, Interval, Itself, Torn, Ring, Full, NoPoint, Length, Version, Heading, NoWeight, Short, Pull, Clash, Shut, OffMap, Seed, TooMany, UnlikeHeads, TooLong, Closeness, Ticks, Doubled}
-use Rattle.t_mesh.specs.Tmesh.{Axis, X, Y, Z, coordinate}
+use Rattle.t_mesh.specs.Tmesh.{Axis, X, Y, Z, coordinate, noPosition}
 use Rattle.t_mesh.specs.declared.t_mesh.Position.{Position}
 use Rattle.t_mesh.specs.declared.t_mesh.Tmesh.{Tmesh}
-use Rattle.surface.specs.Evaluation.{onAxis, evaluationNumber, valueOf, answerBy, withKnots, weighty, setPoint, subsOf, noPosition, asSetPoint}
+use Rattle.surface.specs.Evaluation.{onAxis, evaluationNumber, valueOf, answerBy, withKnots, weighty, setPoint, subsOf, asSetPoint}
 use Rattle.surface.specs.declared.evaluation.Evaluation.{Evaluation}
 use Rattle.surface.specs.declared.evaluation.EvaluationAnswer.{EvaluationAnswer}
 use Rattle.surface.specs.declared.evaluation.EvaluationAnswer.the-variants.{Is, Refused}
-use Rattle.calls.specs.Calls.{Call, insertion, evaluation, question, Answer, evaluated, runOf}
+use Rattle.calls.specs.Calls.{Call, insertion, evaluation, question, pulling, Answer, evaluated, runOf}
 use Rattle.calls.specs.FullStroke.{InUnit, Each, DoneInUnit as CallDoneInUnit, EvaluationInUnit}
 use Rattle.calls.specs.FullStrokeProof.{never-past-full-stroke}
 use Rattle.mirror.specs.BoolLaws.{cond-case}
@@ -54,11 +54,13 @@ abbrev isInsertion : Call → Type 0
 isInsertion (insertion withdraws con d ratio position) = Unit {0}
 isInsertion (evaluation s t) = ⊥
 isInsertion (question cell) = ⊥
+isInsertion (pulling n pull) = ⊥
 
 abbrev positionIn : Call → Position
 positionIn (insertion withdraws con d ratio position) = position
 positionIn (evaluation s t) = noPosition
 positionIn (question cell) = noPosition
+positionIn (pulling n pull) = noPosition
 
 module _ (axis : Axis) (withdraws : Bool) (e s t : Float) where
   done-calls : (edits : List Edit) (map : Tmesh) → DoneInUnit axis edits (editNumbers withdraws e map edits)
