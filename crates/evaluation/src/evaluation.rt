@@ -21,7 +21,8 @@ pub fn share_of(knots: PointKnots, place: Place, s: f64, t: f64) -> Share
     let across = knots.s;
     let upwards = knots.t;
     let position = place.position;
-    let weight = basis_function(s, across) * basis_function(t, upwards) * place.pull;
+    let pull = place.pull;
+    let weight = basis_function(s, across) * basis_function(t, upwards) * pull;
     Share {
         x: position.x * weight,
         y: position.y * weight,

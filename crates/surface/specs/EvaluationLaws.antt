@@ -1,4 +1,4 @@
--- Laws of evaluation: a sum that stands at a number is the whole sum once the rest is added, whatever its parts are; the four sums of an
+-- Laws of evaluation: a point's part by its two basis functions; a sum that stands at a number is the whole sum once the rest is added, whatever its parts are; the four sums of an
 -- evaluation stand together; maps that agree at their listed points have one value; the map by whose knots it is; and what its tables say.
 use Prim.Native.Nat.{ℕ, zero, suc, _+_, _-_, _<_}
 use mathlib.Core.Path.{_≡_, refl, ap, _∙_}
@@ -6,11 +6,15 @@ use mathlib.Core.Bool.{Bool, true, false, cond}
 use native.Mathlib.Omega.{arith}
 use lib.Ieee.{Float, binary64, add, mul, div}
 use Rattle.float64.specs.Literals.{zeroLiteral}
+use Rattle.basis.specs.Binary64.{binary64Arithmetic, knots}
+use Rattle.basis.specs.Formula.{formula}
 use Rattle.control_point.specs.declared.refusal.Outcome.{Outcome}
 use Rattle.control_point.specs.Told.{Told, unless, refusedOr}
 use Rattle.control_point.specs.declared.refusal.Outcome.the-variants.{Done, Refused}
 use Rattle.control_point.specs.declared.refusal.Refusal.the-variants.{NoWeight}
+use Rattle.ray.specs.declared.knots.PointKnots.{PointKnots}
 use Rattle.t_mesh.specs.Tmesh.{Axis, X, Y, Z, coordinate, placeOf, positionOf, isListed}
+use Rattle.t_mesh.specs.declared.t_mesh.Place.{Place}
 use Rattle.t_mesh.specs.declared.t_mesh.Position.{Position}
 use Rattle.t_mesh.specs.declared.t_mesh.Tmesh.{Tmesh}
 use Rattle.surface.specs.Evaluation.{knotsOf, weightOf, shareBy, sumFrom, sumOf, shareWith, valueWith, valueTold, evaluationTold, valueOf, answerBy, evaluatedBy, withKnots, withKnotsTable, subsOf, subsTable, weighty, setPoint, setPointTable}
@@ -21,6 +25,15 @@ use Rattle.surface.specs.declared.evaluation.EvaluationAnswer.the-varian
 use Rattle.surface.specs.declared.evaluation.Share.{Share}
 use Rattle.knot_vectors.specs.declared.knots.Generated.{Generated}
 
+-- ---- a point's part, by its two basis functions
+pub share-weighed : (own : PointKnots) (place : Place) (s t across upwards : Float) → across ≡ formula binary64Arithmetic s (knots (own .s))
+    → upwards ≡ formula binary64Arithmetic t (knots (own .t))
+    → let weight = mul binary64 (mul binary64 across upwards) (place .pull) in
+    record { x = mul binary64 (place .position .x) weight; y = mul binary64 (place .position .y) weight; z = mul binary64 (place .position .z) weight; weight = weight }
+    ≡ shareBy own place s t
+share-weighed own place s t across upwards first second = rw (first, second)
+
+-- ---- sums
 -- the sum of the parts below n
 abbrev pub Standing : Tmesh → (ℕ → Float) → ℕ → Float → Type 0
 Standing map part n sum = sumOf map part ≡ sumFrom map part (128 - n) n sum
