@@ -1,7 +1,8 @@
--- THE PULLS OF A MAP, after every list of calls of the kinds of MapCalls, with any arguments, whatever they answer. A number has the pull that was last set for it by a call
--- that was answered 0, and 1.0 if there was none: so a number that no such call was on has the pull 1.0, whether it was made by an insertion, done or torn, or alone, or not at all.
--- Where every pull so set is 1.0, every evaluation is the one without pulls, bit for bit; of settings that are refused nothing is asked. And nothing but evaluations sees the pulls:
--- a list leaves the points with their sides and counts, the listing, the kept knots and the index that it leaves without its settings of pulls.
+-- THE PULLS OF A MAP, after every list of calls of the kinds of MapCalls, with any arguments, whatever they answer. Each of the 128 numbers has the pull that was last set for it by a
+-- call that was answered 0, and 1.0 if there was none: so one for which no such call was made has the pull 1.0, whether it was made by an insertion, done or torn, or alone, or not at
+-- all. Where every pull so set is 1.0, every evaluation is the one without pulls, bit for bit; of settings that are refused nothing is asked. And nothing but evaluations sees the
+-- pulls: a list leaves the points with their sides and counts, the listing, the kept knots and the index that it leaves without its settings of pulls, and on any map every call but an
+-- evaluation tells what it tells without the places.
 -- Every beginning of a list is a list, so that it is so at every place in one.
 use Prim.Native.Nat.{ℕ, _<_}
 use mathlib.Core.Path.{_≡_}
@@ -16,7 +17,7 @@ use Rattle.surface.specs.Plain.{plainSubs}
 use Rattle.t_mesh.specs.Tmesh.{pullOf, newTmesh}
 use Rattle.t_mesh.specs.declared.t_mesh.Position.{Position}
 use Rattle.t_mesh.specs.declared.t_mesh.Tmesh.{Tmesh}
-use Rattle.soundness.specs.MapCalls.{MapCall, entry, generate-knot-vectors, point-knot-vectors, cast-ray, direct, afterCall, mapAfterAll, numberTo}
+use Rattle.soundness.specs.MapCalls.{MapCall, entry, generate-knot-vectors, point-knot-vectors, cast-ray, direct, afterCall, mapAfterAll, toldTo, numberTo}
 
 -- ---- the last one set
 -- the pull of n after a call, by the one before: where the call sets the pull of n and is answered 0, that one
@@ -38,7 +39,7 @@ unfoldable pub lastPull : Float → Tmesh → List MapCall → ℕ → Float →
 lastPull e map [] n before = before
 lastPull e map (call ∷ rest) n before = lastPull e (afterCall e map call) rest n (callPull e map call n before)
 
--- Each number that there may be a point of, made or not, has the last pull set for it by a call answered 0, and 1.0 if none was.
+-- Each of the 128 numbers, made or not, has the last pull set for it by a call answered 0, and 1.0 if none was.
 abbrev pub PullIsLastSet : Type 0
 PullIsLastSet =
     (e weight : Float) (bottomLeft bottomRight topRight topLeft : Position) (calls : List MapCall) (n : ℕ)
@@ -53,7 +54,7 @@ NeverSet e map [] n = Unit {0}
 NeverSet e map (call ∷ rest) n =
     ((pull : Float) → call ≡ entry (pulling n pull) → numberTo e map call ≡ 0 → ⊥) × NeverSet e (afterCall e map call) rest n
 
--- Such a number has the pull 1.0, made or not.
+-- Such a number of the 128 has the pull 1.0, made or not.
 abbrev pub UnsetPullIsOne : Type 0
 UnsetPullIsOne =
     (e weight : Float) (bottomLeft bottomRight topRight topLeft : Position) (calls : List MapCall) (n : ℕ)
@@ -108,3 +109,21 @@ withoutPulls (call ∷ rest) = cond (setsPull call) (withoutPulls rest) (call �
 -- On every map: but for the places a list leaves the map that it leaves without its settings of pulls.
 abbrev pub PullsUnseen : Type 0
 PullsUnseen = (e : Float) (map : Tmesh) (calls : List MapCall) → withoutPlaces (mapAfterAll e map calls) ≡ withoutPlaces (mapAfterAll e map (withoutPulls calls))
+
+-- whether a call is an evaluation
+abbrev pub isEvaluation : Call → Bool
+isEvaluation (insertion withdraws con d ratio position) = false
+isEvaluation (evaluation s t) = true
+isEvaluation (question cell) = false
+isEvaluation (pulling n pull) = false
+
+abbrev pub evaluates : MapCall → Bool
+evaluates (entry call) = isEvaluation call
+evaluates generate-knot-vectors = false
+evaluates (point-knot-vectors n) = false
+evaluates (cast-ray n d buffer) = false
+evaluates (direct call) = false
+
+-- On every map: every call but an evaluation tells what it tells on the map without its places.
+abbrev pub PlacesUntold : Type 0
+PlacesUntold = (e : Float) (map : Tmesh) (call : MapCall) → evaluates call ≡ false → toldTo e map call ≡ toldTo e (withoutPlaces map) call

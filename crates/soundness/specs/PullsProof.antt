@@ -2,7 +2,7 @@
 -- stays made. So each call moves a pull as `callPull` says, and the two theorems on 1.0 are read off the last one set. No definition but the evaluation's value reads a place.
 use Prim.Native.Nat.{ℕ, zero, suc, _+_, _≤_, _<_}
 use mathlib.Core.Path.{_≡_, refl, sym, ap, _∙_, subst}
-use mathlib.Core.Bool.{Bool, true, false, cond, _&&_}
+use mathlib.Core.Bool.{Bool, true, false, cond, _&&_, false≢true}
 use mathlib.Core.List.{List, [], _∷_}
 use native.Mathlib.Omega.{arith}
 use borrow.Author.Tests.{eqb-true, eqb-false}
@@ -12,7 +12,9 @@ use lib.ListN.{length, getD, set, length-set, getD-replicate}
 use lib.Seq.{getD-set-same, getD-set-other}
 use Rattle.float64.specs.Literals.{oneLiteral}
 use Rattle.control_point.specs.PointLaws.{isMade-made, isMade-room}
-use Rattle.control_point.specs.Told.{outcomeNumber}
+use Rattle.control_point.specs.Point.{isMade}
+use Rattle.control_point.specs.Told.{outcomeTold, outcomeNumber}
+use Rattle.control_point.specs.declared.refusal.Outcome.{Outcome}
 use Rattle.control_point.specs.declared.refusal.Outcome.the-variants.{Done}
 use Rattle.control_point.specs.declared.t_mesh_direction.TmeshDirection.{TmeshDirection}
 use Rattle.ray.specs.declared.knots.PointKnots.{PointKnots}
@@ -28,13 +30,15 @@ use Rattle.t_mesh.specs.declared.t_mesh.Mesh.{Mesh}
 use Rattle.t_mesh.specs.declared.t_mesh.Place.{Place}
 use Rattle.t_mesh.specs.declared.t_mesh.Position.{Position}
 use Rattle.t_mesh.specs.declared.t_mesh.Tmesh.{Tmesh}
-use Rattle.pull.specs.Pull.{repulled}
+use Rattle.pull.specs.Pull.{canPull, repulled, pulledBy, setPull}
 use Rattle.pull.specs.declared.Pulled.{Pulled}
 use Rattle.knot_vectors.specs.Knots.{AllKnots, all, none, onAll, withRow, rowsFrom, allKnots, keeping, generateKnotVectors}
 use Rattle.surface.specs.Evaluation.{withKnots, subsOf}
 use Rattle.surface.specs.EvaluationLaws.{ready-mesh}
 use Rattle.surface.specs.PlainProof.{unpulled-is-plain}
-use Rattle.cells.specs.Cells.{cellPoints}
+use Rattle.grid_index.specs.Index.{cellOf}
+use Rattle.grid_index.specs.declared.Index.{Index}
+use Rattle.cells.specs.Cells.{cellAnswerBy, cellTold, cellPoints}
 use Rattle.calls.specs.Calls.{insertion, evaluation, question, pulling}
 use Rattle.calls.specs.ListLaws.{set-case}
 use Rattle.calls.specs.PullingLaws.{setting-case, pulled-case}
@@ -43,9 +47,9 @@ use Rattle.soundness.specs.DirectLaws.{call-grows}
 use Rattle.soundness.specs.EveryMapProof.{of-sound}
 use Rattle.soundness.specs.FreshLaws.{sound-fresh}
 use Rattle.soundness.specs.InsertionLaws.{Grown}
-use Rattle.soundness.specs.MapCalls.{MapCall, entry, generate-knot-vectors, point-knot-vectors, cast-ray, direct, afterCall, mapAfterAll, numberTo}
+use Rattle.soundness.specs.MapCalls.{MapCall, entry, generate-knot-vectors, point-knot-vectors, cast-ray, direct, afterCall, mapAfterAll, toldTo, numberTo}
 use Rattle.soundness.specs.MapLaws.{SoundMesh, generated-mesh, insertion-grown, sound-call}
-use Rattle.soundness.specs.Pulls.{entryPull, callPull, lastPull, PullIsLastSet, NeverSet, UnsetPullIsOne, OnesSet, OnesArePlain, withoutPlaces, setsPull, withoutPulls, PullsUnseen}
+use Rattle.soundness.specs.Pulls.{entryPull, callPull, lastPull, PullIsLastSet, NeverSet, UnsetPullIsOne, OnesSet, OnesArePlain, withoutPlaces, setsPull, evaluates, withoutPulls, PullsUnseen, PlacesUntold}
 use Rattle.soundness.specs.Theorems.{EveryMap}
 
 -- ---- the last one set
@@ -277,6 +281,27 @@ module _ (e : Float) where
         by-kept true = refl
         by-kept false = generated-unseen
 
+    -- what is told of it
+    outcome-same : (rows : AllKnots) → keeping map rows .outcome ≡ keeping (withoutPlaces map) rows .outcome
+    outcome-same (all rows) = refl
+    outcome-same (none refusal) = refl
+
+    generated-told : generateKnotVectors e map .outcome ≡ generateKnotVectors e (withoutPlaces map) .outcome
+    unfolding generateKnotVectors allKnots
+    generated-told =
+        outcome-same (rowsFrom e map 128 0 (map .knots))
+        ∙ ap (λ (rows : AllKnots). keeping (withoutPlaces map) rows .outcome) (rows-unseen 128 0 (map .knots))
+
+    ready-told : withKnots e map .outcome ≡ withKnots e (withoutPlaces map) .outcome
+    unfolding withKnots
+    ready-told = by-kept (map .kept)
+      where
+        by-kept : (kept : Bool)
+            → cond kept (record { outcome = Done; map = map }) (generateKnotVectors e map) .outcome
+            ≡ cond kept (record { outcome = Done; map = withoutPlaces map }) (generateKnotVectors e (withoutPlaces map)) .outcome
+        by-kept true = refl
+        by-kept false = generated-told
+
     -- what an insertion reads
     inserted-unseen : (withdrawn : Bool) (position : Position) (answer : InsertAnswer) (store : Store)
         → withoutPlaces (cond withdrawn map (afterInsertion map position answer store))
@@ -301,6 +326,24 @@ module _ (e : Float) where
     call-unseen (cast-ray n d buffer) = refl
     call-unseen (direct call) = refl
 
+    call-told : (call : MapCall) → evaluates call ≡ false → toldTo e map call ≡ toldTo e (withoutPlaces map) call
+    unfolding addControlPoint cellPoints setPull
+    call-told (entry (insertion withdraws con d ratio position)) other = refl
+    call-told (entry (evaluation s t)) other = absurd (false≢true (sym other))
+    call-told (entry (question cell)) other =
+        ap (λ (outcome : Outcome). cellTold (cellAnswerBy outcome (cellOf (withKnots e map .map .index) cell))) ready-told
+        ∙ ap (λ (index : Index). cellTold (cellAnswerBy (withKnots e (withoutPlaces map) .outcome) (cellOf index cell))) (ap (λ (bare : Tmesh). bare .index) ready-unseen)
+    call-told (entry (pulling n pull)) other = by-tests (isMade (map .mesh .made) n) (canPull pull)
+      where
+        by-tests : (made can : Bool) → outcomeTold (pulledBy made can map n pull .outcome) ≡ outcomeTold (pulledBy made can (withoutPlaces map) n pull .outcome)
+        by-tests true true = refl
+        by-tests true false = refl
+        by-tests false can = refl
+    call-told generate-knot-vectors other = ap outcomeTold generated-told
+    call-told (point-knot-vectors n) other = refl
+    call-told (cast-ray n d buffer) other = refl
+    call-told (direct call) other = refl
+
     by-kind : (call : MapCall) (sets : Bool) → setsPull call ≡ sets
         → withoutPlaces (afterCall e map call) ≡ cond sets (withoutPlaces map) (withoutPlaces (afterCall e (withoutPlaces map) call))
     by-kind call sets is =
@@ -320,3 +363,6 @@ module _ (e : Float) where
 
 pub pulls-unseen : PullsUnseen
 pulls-unseen e map calls = list-unseen e calls map map refl
+
+pub places-untold : PlacesUntold
+places-untold e map call other = call-told e map call other
