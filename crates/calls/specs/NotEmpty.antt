@@ -173,29 +173,29 @@ PulledRun =
     ∷ (record { call = pulling 2 three; answer = pulled Set } ∷ (record { call = evaluation half half; answer = evaluated (Is drawn) } ∷ []))
 
 -- a setting that is refused by a number and leaves the map as it was
-abbrev pub RefusedBy : ℕ → ℕ → Float → Type 0
-RefusedBy number n pull = (outcomeNumber (setPull plate n pull .outcome) ≡ number) × (setPull plate n pull .map ≡ plate)
+abbrev pub TurnedAway : ℕ → ℕ → Float → Type 0
+TurnedAway number n pull = (outcomeNumber (setPull plate n pull .outcome) ≡ number) × (setPull plate n pull .map ≡ plate)
 
 -- one that is done
 abbrev pub SetOn : Tmesh → ℕ → Float → Type 0
 SetOn map n pull = (outcomeNumber (setPull map n pull .outcome) ≡ 0) × (pullOf (setPull map n pull .map) n ≡ pull)
 
--- every corner's pull 0.0
-abbrev pub withoutPull : Tmesh → ℕ → Tmesh
-withoutPull map n = mapAfter millionth map (pulling n zeroLiteral)
+-- a point's pull set to 0.0, and so that of every corner
+abbrev pub letGo : Tmesh → ℕ → Tmesh
+letGo map n = mapAfter millionth map (pulling n zeroLiteral)
 
 abbrev pub weightlessPlate : Tmesh
-weightlessPlate = withoutPull (withoutPull (withoutPull (withoutPull plate 0) 1) 2) 3
+weightlessPlate = letGo (letGo (letGo (letGo plate 0) 1) 2) 3
 
 pub record PullsAnswered : Type 0 where
   pub run : PulledRun
   -- a number never made: 11, also where the pull is a NaN
-  pub unmade : RefusedBy 11 4 three
-  pub unmade-first : RefusedBy 11 4 nan
+  pub unmade : TurnedAway 11 4 three
+  pub unmade-first : TurnedAway 11 4 nan
   -- −1.0, infinity and a NaN: 17
-  pub negative : RefusedBy 17 2 minusOne
-  pub infinite : RefusedBy 17 2 (inf false)
-  pub not-a-number : RefusedBy 17 2 nan
+  pub negative : TurnedAway 17 2 minusOne
+  pub infinite : TurnedAway 17 2 (inf false)
+  pub not-a-number : TurnedAway 17 2 nan
   -- −0.0 is set, and so is the pull of the torn point, which is not listed
   pub minus-zero : SetOn plate 2 (ofBits binary64 0x8000_0000_0000_0000)
   pub torn : SetOn (mapAfter millionth plate tearing) 4 three

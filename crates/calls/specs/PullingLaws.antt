@@ -4,10 +4,11 @@ use mathlib.Core.Path.{_≡_}
 use mathlib.Core.Bool.{true, false}
 use lib.Ieee.{Float}
 use Rattle.control_point.specs.Point.{isMade}
+use Rattle.control_point.specs.declared.refusal.Outcome.{Outcome}
 use Rattle.control_point.specs.declared.refusal.Outcome.the-variants.{Done, Refused}
 use Rattle.control_point.specs.declared.refusal.Refusal.the-variants.{NoPoint, Pull}
 use Rattle.t_mesh.specs.declared.t_mesh.Tmesh.{Tmesh}
-use Rattle.pull.specs.Pull.{canPull, withPull, setPull}
+use Rattle.pull.specs.Pull.{canPull, withPull, pulledBy, setPull}
 use Rattle.pull.specs.declared.Pulled.{Pulled}
 use Rattle.mirror.specs.BoolLaws.{cond-case}
 
@@ -18,7 +19,10 @@ module _ (map : Tmesh) (n : ℕ) (pull : Float) where
       → Holds (setPull map n pull)
   unfolding setPull
   setting-case Holds unmade refused done =
-      cond-case (isMade (map .mesh .made) n) Holds _ _ (λ made. cond-case (canPull pull) Holds _ _ (done made) (refused made)) unmade
+      cond-case (isMade (map .mesh .made) n) Of _ _ (λ made. cond-case (canPull pull) Of _ _ (done made) (refused made)) unmade
+    where
+      Of : Outcome → Type 0
+      Of outcome = Holds (pulledBy outcome map n pull)
 
   -- of the map that it leaves
   pub pulled-case : (Holds : Tmesh → Type 0) → Holds map → (isMade (map .mesh .made) n ≡ true → canPull pull ≡ true → Holds (withPull map n pull))

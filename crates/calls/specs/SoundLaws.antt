@@ -234,7 +234,7 @@ question-sound axis e map sound cell = with-knots axis e map sound
 can-not-negative : (pull : Float) → canPull pull ≡ true → NotNegative pull
 can-not-negative pull can =
     nonneg→nonnegOrNan pull
-    (le→nonneg pull (subst (λ (zero : Float). T (le zero pull)) literal-zero (subst T (sym (and-both (le zeroLiteral pull) (lt pull (inf false)) can .0)) tt)))
+    (le→nonneg pull (subst (λ (least : Float). T (le least pull)) literal-zero (subst T (sym (and-both (le zeroLiteral pull) (lt pull (inf false)) can .0)) tt)))
 
 pub pulling-sound : (axis : Axis) (map : Tmesh) → Sound axis map → (n : ℕ) (pull : Float) → Sound axis (setPull map n pull .map)
 pulling-sound axis map sound n pull =

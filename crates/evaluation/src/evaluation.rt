@@ -1,4 +1,4 @@
-// The surface at a place.
+// The surface at (s, t).
 ghost use mathlib.Core.Path.{_≡_};
 ghost use Rattle.control_point.specs.Small.{millionth};
 ghost use Rattle.surface.specs.Evaluation.{evaluationTold, shareBy, answerBy, subsOf, subsTable, weighty, setPoint, asSetPoint, setPointTable};

@@ -9,6 +9,7 @@ use lib.ListN.{set}
 use Rattle.float64.specs.Literals.{zeroLiteral}
 use Rattle.control_point.specs.Point.{isMade}
 use Rattle.control_point.specs.Told.{Told, tells, unless}
+use Rattle.control_point.specs.declared.refusal.Outcome.{Outcome}
 use Rattle.control_point.specs.declared.refusal.Outcome.the-variants.{Done, Refused}
 use Rattle.control_point.specs.declared.refusal.Refusal.the-variants.{NoPoint, Pull}
 use Rattle.t_mesh.specs.Tmesh.{placeOf}
@@ -38,15 +39,21 @@ withPull map n pull =
       index = map .index;
     }
 
--- by the two tests
-abbrev pub pulledBy : Bool → Bool → Tmesh → ℕ → Float → Pulled
-pulledBy made can map n pull =
-    cond made
-    (cond can (record { outcome = Done; map = withPull map n pull }) (record { outcome = Refused Pull; map = map }))
-    (record { outcome = Refused NoPoint; map = map })
+-- what comes of it, with so many points made
+abbrev pub pullOutcome : ℕ → ℕ → Float → Outcome
+pullOutcome made n pull = cond (isMade made n) (cond (canPull pull) Done (Refused Pull)) (Refused NoPoint)
+
+-- the map after it
+abbrev pub afterPull : Outcome → Tmesh → ℕ → Float → Tmesh
+afterPull Done map n pull = withPull map n pull
+afterPull (Refused refusal) map n pull = map
+
+-- both
+abbrev pub pulledBy : Outcome → Tmesh → ℕ → Float → Pulled
+pulledBy outcome map n pull = record { outcome = outcome; map = afterPull outcome map n pull }
 
 unfoldable pub setPull : Tmesh → ℕ → Float → Pulled
-setPull map n pull = pulledBy (isMade (map .mesh .made) n) (canPull pull) map n pull
+setPull map n pull = pulledBy (pullOutcome (map .mesh .made) n pull) map n pull
 
 -- its table: done, it tells no value
 abbrev pub pullTable : Tmesh → ℕ → Float → Told

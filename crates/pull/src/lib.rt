@@ -1,7 +1,7 @@
 // The call that sets a point's pull.
 ghost use mathlib.Core.Path.{_≡_};
 ghost use Rattle.control_point.specs.Told.{outcomeTold};
-ghost use Rattle.pull.specs.Pull.{canPull, repulled, setPull, pullTable};
+ghost use Rattle.pull.specs.Pull.{canPull, repulled, pullOutcome, setPull, pullTable};
 use control_point::refusal::Outcome;
 use control_point::refusal::Refusal;
 use control_point::t_mesh_control_point::is_made;
@@ -29,29 +29,30 @@ fn repulled(place: Place, pull: f64) -> Place
     Place { position, pull }
 }
 
+// What comes of setting a point's pull, with so many points made.
+fn pull_outcome(made: u8, n: u8, pull: f64) -> Outcome
+    ensures { λ r. ⌜ r ≡ pullOutcome made n pull ⌝ }
+{
+    if !is_made(made, n) {
+        return Outcome::Refused(Refusal::NoPoint);
+    }
+    if !can_pull(pull) {
+        return Outcome::Refused(Refusal::Pull);
+    }
+    Outcome::Done
+}
+
 // The pull of a made point, listed or not; nothing else of the map changes.
 pub fn set_pull(mut map: Tmesh, n: u8, pull: f64) -> Pulled
     ensures is { λ r. ⌜ r ≡ setPull map n pull ⌝ }
     ensures told { λ r. ⌜ outcomeTold (r .outcome) ≡ pullTable map n pull ⌝ }
 {
     let mut mesh = map.mesh;
-    if !is_made(mesh.made, n) {
-        return Pulled {
-            outcome: Outcome::Refused(Refusal::NoPoint),
-            map,
-        };
+    let outcome = pull_outcome(mesh.made, n, pull);
+    if let Outcome::Done = outcome {
+        let place = repulled(mesh.places[n as usize], pull);
+        mesh.places[n as usize] = place;
+        map.mesh = mesh;
     }
-    if !can_pull(pull) {
-        return Pulled {
-            outcome: Outcome::Refused(Refusal::Pull),
-            map,
-        };
-    }
-    let place = repulled(mesh.places[n as usize], pull);
-    mesh.places[n as usize] = place;
-    map.mesh = mesh;
-    Pulled {
-        outcome: Outcome::Done,
-        map,
-    }
+    Pulled { outcome, map }
 }

@@ -11,7 +11,6 @@ use lib.Ieee.{Float, nan}
 use lib.ListN.{length, getD, set, length-set}
 use lib.Seq.{getD-set-same, getD-set-other}
 use Rattle.float64.specs.Literals.{zeroLiteral, oneLiteral}
-use Rattle.control_point.specs.Point.{isMade}
 use Rattle.control_point.specs.Told.{Told, outcomeTold}
 use Rattle.control_point.specs.declared.refusal.Outcome.{Outcome}
 use Rattle.control_point.specs.declared.refusal.Outcome.the-variants.{Done, Refused as NotBuilt}
@@ -39,7 +38,7 @@ use Rattle.t_mesh.specs.declared.t_mesh.Position.{Position}
 use Rattle.t_mesh.specs.declared.t_mesh.Tmesh.{Tmesh}
 use Rattle.knot_vectors.specs.Knots.{AllKnots, all, none, onAll, inRow, withRow, rowsFrom, allKnots, keeping, generateKnotVectors}
 use Rattle.knot_vectors.specs.declared.knots.Generated.{Generated}
-use Rattle.pull.specs.Pull.{canPull, repulled, withPull, pulledBy, setPull}
+use Rattle.pull.specs.Pull.{repulled, withPull, pullOutcome, pulledBy, setPull}
 use Rattle.pull.specs.declared.Pulled.{Pulled}
 use Rattle.surface.specs.Evaluation.{evaluationTold, evaluationNumber, knotsOf, weightBy, weightOf, totalWeight, valueOf, answerBy, withKnots, subsOf, weighty, setPoint, asSetPoint}
 use Rattle.surface.specs.EvaluationLaws.{ready-mesh, total-alike as totals-agree}
@@ -350,8 +349,8 @@ module _ (one other : Tmesh) (sound : SoundMap one) (sound′ : SoundMap other) 
     pulled-alike : (n : ℕ) (pull : Float) → AlikeSet (setPull one n pull) (setPull other n pull)
     unfolding setPull
     pulled-alike n pull =
-        subst (λ (store : Store). AlikeSet (setPull one n pull) (pulledBy (isMade (store .made) n) (canPull pull) other n pull)) (alike .store)
-        (by-tests (isMade (storeOf one .made) n) (canPull pull))
+        subst (λ (store : Store). AlikeSet (setPull one n pull) (pulledBy (pullOutcome (store .made) n pull) other n pull)) (alike .store)
+        (by-outcome (pullOutcome (storeOf one .made) n pull))
       where
         repulled-too : pullsOf (withPull one n pull) ≡ pullsOf (withPull other n pull)
         repulled-too =
@@ -359,10 +358,9 @@ module _ (one other : Tmesh) (sound : SoundMap one) (sound′ : SoundMap other) 
             ∙ ap (λ (pulls : List Float). set pulls n pull) (alike .pulls)
             ∙ sym (pulls-with (other .mesh .places) n (repulled (placeOf other n) pull))
 
-        by-tests : (made can : Bool) → AlikeSet (pulledBy made can one n pull) (pulledBy made can other n pull)
-        by-tests true true = (refl, record { store = alike .store; listing = alike .listing; pulls = repulled-too; kept = alike .kept; knots = alike .knots })
-        by-tests true false = (refl, alike)
-        by-tests false can = (refl, alike)
+        by-outcome : (outcome : Outcome) → AlikeSet (pulledBy outcome one n pull) (pulledBy outcome other n pull)
+        by-outcome Done = (refl, record { store = alike .store; listing = alike .listing; pulls = repulled-too; kept = alike .kept; knots = alike .knots })
+        by-outcome (NotBuilt refusal) = (refl, alike)
 
     -- ---- any call, the second time without its position
     told-alike : (call : MapCall) → toldWithout e one call ≡ toldWithout e other (callWithout call)

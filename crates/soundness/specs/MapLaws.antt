@@ -30,7 +30,7 @@ use Rattle.t_mesh.specs.declared.t_mesh.Position.{Position}
 use Rattle.t_mesh.specs.declared.t_mesh.Tmesh.{Tmesh}
 use Rattle.pull.specs.Pull.{withPull}
 use Rattle.surface.specs.Evaluation.{valueOf, answerBy, withKnots, subsOf}
-use Rattle.surface.specs.EvaluationLaws.{ready-mesh}
+use Rattle.surface.specs.EvaluationLaws.{generated-mesh, ready-mesh}
 use Rattle.knot_vectors.specs.Knots.{AllKnots, all, none, onAll, inRow, withRow, rowsFrom, allKnots, keeping, generateKnotVectors}
 use Rattle.surface.specs.declared.evaluation.Evaluation.{Evaluation}
 use Rattle.surface.specs.declared.evaluation.EvaluationAnswer.{EvaluationAnswer}
@@ -72,15 +72,6 @@ KnownQuestion (NoWords refusal) = Met refusal
 abbrev KnownAll : AllKnots → Type 0
 KnownAll (all rows) = Unit {0}
 KnownAll (none refusal) = Met refusal
-
--- the building of all knots leaves the mesh
-pub generated-mesh : (e : Float) (map : Tmesh) → generateKnotVectors e map .map .mesh ≡ map .mesh
-unfolding generateKnotVectors
-generated-mesh e map = by-rows (allKnots e map)
-  where
-    by-rows : (rows : AllKnots) → keeping map rows .map .mesh ≡ map .mesh
-    by-rows (all rows) = refl
-    by-rows (none refusal) = refl
 
 module _ (map : Tmesh) (mesh-sound : SoundMesh (map .mesh)) where
   -- ---- an insertion

@@ -1,23 +1,25 @@
 -- THE PULLS OF A MAP, after every list of calls of the kinds of MapCalls, with any arguments, whatever they answer. Each of the 128 numbers has the pull that was last set for it by a
 -- call that was answered 0, and 1.0 if there was none: so one for which no such call was made has the pull 1.0, whether it was made by an insertion, done or torn, or alone, or not at
 -- all. Where every pull so set is 1.0, every evaluation is the one without pulls, bit for bit; of settings that are refused nothing is asked. And nothing but evaluations sees the
--- pulls: a list leaves the points with their sides and counts, the listing, the kept knots and the index that it leaves without its settings of pulls, and on any map every call but an
--- evaluation tells what it tells without the places.
--- Every beginning of a list is a list, so that it is so at every place in one.
+-- pulls: a list leaves the points with their sides and counts, the positions, the listing, the kept knots and the index that it leaves without its settings of pulls, and on any map
+-- every call but an evaluation tells what it tells where every pull is 1.0.
+-- Every beginning of a list is a list, so that it is so throughout one.
 use Prim.Native.Nat.{ℕ, _<_}
 use mathlib.Core.Path.{_≡_}
 use mathlib.Core.Bool.{Bool, true, false, cond, _&&_}
-use mathlib.Core.List.{List, [], _∷_}
+use mathlib.Core.List.{List, [], _∷_, map}
 use lib.Dec.{eqb}
 use lib.Ieee.{Float}
 use Rattle.float64.specs.Literals.{oneLiteral}
+use Rattle.control_point.specs.Point.{isMade}
 use Rattle.calls.specs.Calls.{Call, insertion, evaluation, question, pulling}
 use Rattle.surface.specs.Evaluation.{subsOf}
 use Rattle.surface.specs.Plain.{plainSubs}
-use Rattle.t_mesh.specs.Tmesh.{pullOf, newTmesh}
+use Rattle.t_mesh.specs.Tmesh.{unpulled, pullOf, storeOf, newTmesh}
 use Rattle.t_mesh.specs.declared.t_mesh.Position.{Position}
 use Rattle.t_mesh.specs.declared.t_mesh.Tmesh.{Tmesh}
 use Rattle.soundness.specs.MapCalls.{MapCall, entry, generate-knot-vectors, point-knot-vectors, cast-ray, direct, afterCall, mapAfterAll, toldTo, numberTo}
+use Rattle.soundness.specs.Theorems.{EveryMap}
 
 -- ---- the last one set
 -- the pull of n after a call, by the one before: where the call sets the pull of n and is answered 0, that one
@@ -62,6 +64,10 @@ UnsetPullIsOne =
     → NeverSet e (newTmesh weight bottomLeft bottomRight topRight topLeft) calls n
     → pullOf (mapAfterAll e (newTmesh weight bottomLeft bottomRight topRight topLeft) calls) n ≡ oneLiteral
 
+-- A number that is not made has it too, so that a point has it when it is made, by an insertion or alone.
+abbrev pub UnmadePullIsOne : Type 0
+UnmadePullIsOne = EveryMap (λ own. (n : ℕ) → n < 128 → isMade (storeOf own .made) n ≡ false → pullOf own n ≡ oneLiteral)
+
 -- ---- every one set is 1.0
 abbrev pub OnesSet : Float → Tmesh → List MapCall → Type 0
 OnesSet e map [] = Unit {0}
@@ -78,14 +84,14 @@ OnesArePlain =
     ≡ plainSubs closeness (mapAfterAll e (newTmesh weight bottomLeft bottomRight topRight topLeft) calls) s t
 
 -- ---- what does not see them
--- a map without its places: the points, the listing, whether knots are kept, the knots and the index
-abbrev pub withoutPlaces : Tmesh → Tmesh
-withoutPlaces map =
+-- a map with every pull 1.0
+abbrev pub allUnpulled : Tmesh → Tmesh
+allUnpulled own =
     record {
-      mesh = record { points = map .mesh .points; made = map .mesh .made; places = []; listed = map .mesh .listed };
-      kept = map .kept;
-      knots = map .knots;
-      index = map .index;
+      mesh = record { points = own .mesh .points; made = own .mesh .made; places = map (λ place. unpulled (place .position)) (own .mesh .places); listed = own .mesh .listed };
+      kept = own .kept;
+      knots = own .knots;
+      index = own .index;
     }
 
 -- a list without its settings of pulls
@@ -102,13 +108,13 @@ setsPull (point-knot-vectors n) = false
 setsPull (cast-ray n d buffer) = false
 setsPull (direct call) = false
 
-unfoldable pub withoutPulls : List MapCall → List MapCall
-withoutPulls [] = []
-withoutPulls (call ∷ rest) = cond (setsPull call) (withoutPulls rest) (call ∷ withoutPulls rest)
+unfoldable pub withoutSettings : List MapCall → List MapCall
+withoutSettings [] = []
+withoutSettings (call ∷ rest) = cond (setsPull call) (withoutSettings rest) (call ∷ withoutSettings rest)
 
--- On every map: but for the places a list leaves the map that it leaves without its settings of pulls.
+-- On every map: but for the pulls a list leaves the map that it leaves without its settings of pulls.
 abbrev pub PullsUnseen : Type 0
-PullsUnseen = (e : Float) (map : Tmesh) (calls : List MapCall) → withoutPlaces (mapAfterAll e map calls) ≡ withoutPlaces (mapAfterAll e map (withoutPulls calls))
+PullsUnseen = (e : Float) (own : Tmesh) (calls : List MapCall) → allUnpulled (mapAfterAll e own calls) ≡ allUnpulled (mapAfterAll e own (withoutSettings calls))
 
 -- whether a call is an evaluation
 abbrev pub isEvaluation : Call → Bool
@@ -124,6 +130,6 @@ evaluates (point-knot-vectors n) = false
 evaluates (cast-ray n d buffer) = false
 evaluates (direct call) = false
 
--- On every map: every call but an evaluation tells what it tells on the map without its places.
-abbrev pub PlacesUntold : Type 0
-PlacesUntold = (e : Float) (map : Tmesh) (call : MapCall) → evaluates call ≡ false → toldTo e map call ≡ toldTo e (withoutPlaces map) call
+-- On every map: every call but an evaluation tells what it tells where every pull is 1.0.
+abbrev pub PullsUntold : Type 0
+PullsUntold = (e : Float) (own : Tmesh) (call : MapCall) → evaluates call ≡ false → toldTo e own call ≡ toldTo e (allUnpulled own) call

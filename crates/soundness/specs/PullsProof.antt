@@ -1,12 +1,13 @@
 -- The theorems of Pulls. A point is made with the pull 1.0, and the places of numbers not made have it too; only a setting that is done stores another, in the place of a made number, which
--- stays made. So each call moves a pull as `callPull` says, and the two theorems on 1.0 are read off the last one set. No definition but the evaluation's value reads a place.
+-- stays made. So each call moves a pull as `callPull` says, and the two theorems on 1.0 are read off the last one set. No definition but the evaluation's value reads a pull.
 use Prim.Native.Nat.{ℕ, zero, suc, _+_, _≤_, _<_}
 use mathlib.Core.Path.{_≡_, refl, sym, ap, _∙_, subst}
 use mathlib.Core.Bool.{Bool, true, false, cond, _&&_, false≢true}
 use mathlib.Core.List.{List, [], _∷_}
+use mathlib.Core.List as Lists
 use native.Mathlib.Omega.{arith}
-use borrow.Author.Tests.{eqb-true, eqb-false}
-use lib.Dec.{eqb}
+use borrow.Author.Tests.{eqb-true, eqb-false, ltb-false}
+use lib.Dec.{eqb, ltb}
 use lib.Ieee.{Float}
 use lib.ListN.{length, getD, set, length-set, getD-replicate}
 use lib.Seq.{getD-set-same, getD-set-other}
@@ -30,11 +31,11 @@ use Rattle.t_mesh.specs.declared.t_mesh.Mesh.{Mesh}
 use Rattle.t_mesh.specs.declared.t_mesh.Place.{Place}
 use Rattle.t_mesh.specs.declared.t_mesh.Position.{Position}
 use Rattle.t_mesh.specs.declared.t_mesh.Tmesh.{Tmesh}
-use Rattle.pull.specs.Pull.{canPull, repulled, pulledBy, setPull}
+use Rattle.pull.specs.Pull.{repulled, setPull}
 use Rattle.pull.specs.declared.Pulled.{Pulled}
 use Rattle.knot_vectors.specs.Knots.{AllKnots, all, none, onAll, withRow, rowsFrom, allKnots, keeping, generateKnotVectors}
 use Rattle.surface.specs.Evaluation.{withKnots, subsOf}
-use Rattle.surface.specs.EvaluationLaws.{ready-mesh}
+use Rattle.surface.specs.EvaluationLaws.{generated-mesh, ready-mesh}
 use Rattle.surface.specs.PlainProof.{unpulled-is-plain}
 use Rattle.grid_index.specs.Index.{cellOf}
 use Rattle.grid_index.specs.declared.Index.{Index}
@@ -48,8 +49,8 @@ use Rattle.soundness.specs.EveryMapProof.{of-sound}
 use Rattle.soundness.specs.FreshLaws.{sound-fresh}
 use Rattle.soundness.specs.InsertionLaws.{Grown}
 use Rattle.soundness.specs.MapCalls.{MapCall, entry, generate-knot-vectors, point-knot-vectors, cast-ray, direct, afterCall, mapAfterAll, toldTo, numberTo}
-use Rattle.soundness.specs.MapLaws.{SoundMesh, generated-mesh, insertion-grown, sound-call}
-use Rattle.soundness.specs.Pulls.{entryPull, callPull, lastPull, PullIsLastSet, NeverSet, UnsetPullIsOne, OnesSet, OnesArePlain, withoutPlaces, setsPull, evaluates, withoutPulls, PullsUnseen, PlacesUntold}
+use Rattle.soundness.specs.MapLaws.{SoundMesh, insertion-grown, sound-call}
+use Rattle.soundness.specs.Pulls.{entryPull, callPull, lastPull, PullIsLastSet, NeverSet, UnsetPullIsOne, UnmadePullIsOne, OnesSet, OnesArePlain, allUnpulled, setsPull, evaluates, withoutSettings, PullsUnseen, PullsUntold}
 use Rattle.soundness.specs.Theorems.{EveryMap}
 
 -- ---- the last one set
@@ -167,6 +168,11 @@ pull-list e (call ∷ calls) map sound unmade n below =
     pull-list e calls (afterCall e map call) (sound-call map sound e call) (unmade-call map sound unmade e call) n below
     ∙ ap (lastPull e (afterCall e map call) calls n) (pull-call map sound unmade e call n below)
 
+unmade-list : (e : Float) (calls : List MapCall) (map : Tmesh) → SoundMesh (map .mesh) → Unmade (map .mesh) → Unmade (mapAfterAll e map calls .mesh)
+unfolding mapAfterAll
+unmade-list e [] map sound unmade = unmade
+unmade-list e (call ∷ calls) map sound unmade = unmade-list e calls (afterCall e map call) (sound-call map sound e call) (unmade-call map sound unmade e call)
+
 module _ (weight : Float) (bottomLeft bottomRight topRight topLeft : Position) where
   fresh-ones : (n : ℕ) → n < 128 → pullOf (newTmesh weight bottomLeft bottomRight topRight topLeft) n ≡ oneLiteral
   unfolding newTmesh
@@ -181,14 +187,30 @@ module _ (weight : Float) (bottomLeft bottomRight topRight topLeft : Position) w
   unfolding newTmesh
   fresh-room = refl
 
+  fresh-unmade : Unmade (newTmesh weight bottomLeft bottomRight topRight topLeft .mesh)
+  fresh-unmade = record { room = fresh-room; ones = λ n _ below. fresh-ones n below }
+
 pub pull-is-last-set : PullIsLastSet
 pull-is-last-set e weight bottomLeft bottomRight topRight topLeft calls n below =
     let fresh = newTmesh weight bottomLeft bottomRight topRight topLeft in
-    let ones = fresh-ones weight bottomLeft bottomRight topRight topLeft in
-    pull-list e calls fresh (sound-fresh weight bottomLeft bottomRight topRight topLeft)
-    (record { room = fresh-room weight bottomLeft bottomRight topRight topLeft; ones = λ m _ room. ones m room })
-    n below
-    ∙ ap (lastPull e fresh calls n) (ones n below)
+    pull-list e calls fresh (sound-fresh weight bottomLeft bottomRight topRight topLeft) (fresh-unmade weight bottomLeft bottomRight topRight topLeft) n below
+    ∙ ap (lastPull e fresh calls n) (fresh-ones weight bottomLeft bottomRight topRight topLeft n below)
+
+-- a number of the 128 that is not made is not below the count of those that are
+unmade-above : (made n : ℕ) → n < 128 → isMade made n ≡ false → made ≤ n
+unfolding isMade
+unmade-above made n below not-made = by-test (ltb n made) refl not-made
+  where
+    by-test : (b : Bool) → ltb n made ≡ b → (b && ltb n 128) ≡ false → made ≤ n
+    by-test true is h = let at-most = ltb-false n 128 h in absurd (omega (arith, below, at-most))
+    by-test false is h = ltb-false n made is
+
+pub unmade-pull-is-one : UnmadePullIsOne
+unmade-pull-is-one e weight bottomLeft bottomRight topRight topLeft calls n below not-made =
+    let fresh = newTmesh weight bottomLeft bottomRight topRight topLeft in
+    unmade-list e calls fresh (sound-fresh weight bottomLeft bottomRight topRight topLeft) (fresh-unmade weight bottomLeft bottomRight topRight topLeft) .ones n
+    (unmade-above (storeOf (mapAfterAll e fresh calls) .made) n below not-made)
+    below
 
 -- ---- where each that is set for a number is 1.0
 abbrev OnesFor : Float → Tmesh → List MapCall → ℕ → Type 0
@@ -249,6 +271,37 @@ ones-are-plain e weight bottomLeft bottomRight topRight topLeft calls h closenes
     ∙ last-one e n calls fresh oneLiteral refl (all-ones e n calls fresh h))
 
 -- ---- what does not see them
+-- places with every pull 1.0
+abbrev unpulledAll : List Place → List Place
+unpulledAll = Lists.map (λ (place : Place). unpulled (place .position))
+
+unpulled-twice : (places : List Place) → unpulledAll places ≡ unpulledAll (unpulledAll places)
+unpulled-twice [] = refl
+unpulled-twice (place ∷ places) = ap (λ (rest : List Place). unpulled (place .position) ∷ rest) (unpulled-twice places)
+
+unpulled-set : (places : List Place) (n : ℕ) (place : Place) → unpulledAll (set places n place) ≡ unpulledAll (set (unpulledAll places) n place)
+unpulled-set [] n place = refl
+unpulled-set (first ∷ places) zero place = ap (λ (rest : List Place). unpulled (place .position) ∷ rest) (unpulled-twice places)
+unpulled-set (first ∷ places) (suc n) place = ap (λ (rest : List Place). unpulled (first .position) ∷ rest) (unpulled-set places n place)
+
+unpulled-repulled : (places : List Place) (n : ℕ) (pull : Float) → unpulledAll (set places n (repulled (getD places n noPlace) pull)) ≡ unpulledAll places
+unpulled-repulled [] n pull = refl
+unpulled-repulled (first ∷ places) zero pull = refl
+unpulled-repulled (first ∷ places) (suc n) pull = ap (λ (rest : List Place). unpulled (first .position) ∷ rest) (unpulled-repulled places n pull)
+
+-- a map with other places
+abbrev withPlaces : Tmesh → List Place → Tmesh
+withPlaces map places =
+    record {
+      mesh = record { points = map .mesh .points; made = map .mesh .made; places = places; listed = map .mesh .listed };
+      kept = map .kept;
+      knots = map .knots;
+      index = map .index;
+    }
+
+same-unpulled : (map : Tmesh) → allUnpulled map ≡ allUnpulled (allUnpulled map)
+same-unpulled map = ap (withPlaces map) (unpulled-twice (map .mesh .places))
+
 module _ (e : Float) where
   module _ (map : Tmesh) where
     -- what a building reads
@@ -256,113 +309,111 @@ module _ (e : Float) where
     on-same (all rows) next next′ same = same rows
     on-same (none refusal) next next′ same = refl
 
-    rows-unseen : (left n : ℕ) (rows : List PointKnots) → rowsFrom e map left n rows ≡ rowsFrom e (withoutPlaces map) left n rows
+    rows-unseen : (left n : ℕ) (rows : List PointKnots) → rowsFrom e map left n rows ≡ rowsFrom e (allUnpulled map) left n rows
     unfolding rowsFrom
     rows-unseen zero n rows = refl
     rows-unseen (suc left) n rows = on-same (withRow e map n rows) _ _ (λ filled. rows-unseen left (n + 1) filled)
 
-    keeping-unseen : (rows : AllKnots) → withoutPlaces (keeping map rows .map) ≡ withoutPlaces (keeping (withoutPlaces map) rows .map)
-    keeping-unseen (all rows) = refl
-    keeping-unseen (none refusal) = refl
+    keeping-unseen : (rows : AllKnots) → allUnpulled (keeping map rows .map) ≡ allUnpulled (keeping (allUnpulled map) rows .map)
+    keeping-unseen (all rows) = ap (withPlaces (keeping map (all rows) .map)) (unpulled-twice (map .mesh .places))
+    keeping-unseen (none refusal) = same-unpulled map
 
-    generated-unseen : withoutPlaces (generateKnotVectors e map .map) ≡ withoutPlaces (generateKnotVectors e (withoutPlaces map) .map)
+    generated-unseen : allUnpulled (generateKnotVectors e map .map) ≡ allUnpulled (generateKnotVectors e (allUnpulled map) .map)
     unfolding generateKnotVectors allKnots
     generated-unseen =
         keeping-unseen (rowsFrom e map 128 0 (map .knots))
-        ∙ ap (λ (rows : AllKnots). withoutPlaces (keeping (withoutPlaces map) rows .map)) (rows-unseen 128 0 (map .knots))
+        ∙ ap (λ (rows : AllKnots). allUnpulled (keeping (allUnpulled map) rows .map)) (rows-unseen 128 0 (map .knots))
 
-    ready-unseen : withoutPlaces (withKnots e map .map) ≡ withoutPlaces (withKnots e (withoutPlaces map) .map)
+    ready-unseen : allUnpulled (withKnots e map .map) ≡ allUnpulled (withKnots e (allUnpulled map) .map)
     unfolding withKnots
     ready-unseen = by-kept (map .kept)
       where
         by-kept : (kept : Bool)
-            → withoutPlaces (cond kept (record { outcome = Done; map = map }) (generateKnotVectors e map) .map)
-            ≡ withoutPlaces (cond kept (record { outcome = Done; map = withoutPlaces map }) (generateKnotVectors e (withoutPlaces map)) .map)
-        by-kept true = refl
+            → allUnpulled (cond kept (record { outcome = Done; map = map }) (generateKnotVectors e map) .map)
+            ≡ allUnpulled (cond kept (record { outcome = Done; map = allUnpulled map }) (generateKnotVectors e (allUnpulled map)) .map)
+        by-kept true = same-unpulled map
         by-kept false = generated-unseen
 
     -- what is told of it
-    outcome-same : (rows : AllKnots) → keeping map rows .outcome ≡ keeping (withoutPlaces map) rows .outcome
+    outcome-same : (rows : AllKnots) → keeping map rows .outcome ≡ keeping (allUnpulled map) rows .outcome
     outcome-same (all rows) = refl
     outcome-same (none refusal) = refl
 
-    generated-told : generateKnotVectors e map .outcome ≡ generateKnotVectors e (withoutPlaces map) .outcome
+    generated-told : generateKnotVectors e map .outcome ≡ generateKnotVectors e (allUnpulled map) .outcome
     unfolding generateKnotVectors allKnots
     generated-told =
         outcome-same (rowsFrom e map 128 0 (map .knots))
-        ∙ ap (λ (rows : AllKnots). keeping (withoutPlaces map) rows .outcome) (rows-unseen 128 0 (map .knots))
+        ∙ ap (λ (rows : AllKnots). keeping (allUnpulled map) rows .outcome) (rows-unseen 128 0 (map .knots))
 
-    ready-told : withKnots e map .outcome ≡ withKnots e (withoutPlaces map) .outcome
+    ready-told : withKnots e map .outcome ≡ withKnots e (allUnpulled map) .outcome
     unfolding withKnots
     ready-told = by-kept (map .kept)
       where
         by-kept : (kept : Bool)
             → cond kept (record { outcome = Done; map = map }) (generateKnotVectors e map) .outcome
-            ≡ cond kept (record { outcome = Done; map = withoutPlaces map }) (generateKnotVectors e (withoutPlaces map)) .outcome
+            ≡ cond kept (record { outcome = Done; map = allUnpulled map }) (generateKnotVectors e (allUnpulled map)) .outcome
         by-kept true = refl
         by-kept false = generated-told
 
     -- what an insertion reads
     inserted-unseen : (withdrawn : Bool) (position : Position) (answer : InsertAnswer) (store : Store)
-        → withoutPlaces (cond withdrawn map (afterInsertion map position answer store))
-        ≡ withoutPlaces (cond withdrawn (withoutPlaces map) (afterInsertion (withoutPlaces map) position answer store))
-    inserted-unseen true position answer store = refl
-    inserted-unseen false position (Added opened inferred) store = refl
-    inserted-unseen false position (Torn opened inferred) store = refl
-    inserted-unseen false position (NotAdded refusal) store = refl
+        → allUnpulled (cond withdrawn map (afterInsertion map position answer store))
+        ≡ allUnpulled (cond withdrawn (allUnpulled map) (afterInsertion (allUnpulled map) position answer store))
+    inserted-unseen true position answer store = same-unpulled map
+    inserted-unseen false position (Added opened inferred) store =
+        ap (withPlaces (afterInsertion map position (Added opened inferred) store)) (unpulled-set (map .mesh .places) (map .mesh .made) (unpulled position))
+    inserted-unseen false position (Torn opened inferred) store =
+        ap (withPlaces (afterInsertion map position (Torn opened inferred) store)) (unpulled-set (map .mesh .places) (map .mesh .made) (unpulled position))
+    inserted-unseen false position (NotAdded refusal) store = same-unpulled map
 
-    -- but for the places, a call leaves what it leaves of a map without them, and a setting of a pull what stood before it
+    -- but for the pulls, a call leaves what it leaves where each is 1.0, and a setting of one what stood before it
     call-unseen : (call : MapCall)
-        → withoutPlaces (afterCall e map call) ≡ cond (setsPull call) (withoutPlaces map) (withoutPlaces (afterCall e (withoutPlaces map) call))
+        → allUnpulled (afterCall e map call) ≡ cond (setsPull call) (allUnpulled map) (allUnpulled (afterCall e (allUnpulled map) call))
     unfolding addControlPoint subsOf cellPoints
     call-unseen (entry (insertion withdraws con d ratio position)) =
         let result = insertPoint e (storeOf map) (isListed map con) con d ratio in
         inserted-unseen (isWithdrawn withdraws (result .answer)) position (result .answer) (result .store)
     call-unseen (entry (evaluation s t)) = ready-unseen
     call-unseen (entry (question cell)) = ready-unseen
-    call-unseen (entry (pulling n pull)) = pulled-case map n pull (λ after. withoutPlaces after ≡ withoutPlaces map) refl (λ _ _. refl)
+    call-unseen (entry (pulling n pull)) =
+        pulled-case map n pull (λ after. allUnpulled after ≡ allUnpulled map) refl (λ _ _. ap (withPlaces map) (unpulled-repulled (map .mesh .places) n pull))
     call-unseen generate-knot-vectors = generated-unseen
-    call-unseen (point-knot-vectors n) = refl
-    call-unseen (cast-ray n d buffer) = refl
-    call-unseen (direct call) = refl
+    call-unseen (point-knot-vectors n) = same-unpulled map
+    call-unseen (cast-ray n d buffer) = same-unpulled map
+    call-unseen (direct call) = ap (withPlaces (afterCall e map (direct call))) (unpulled-twice (map .mesh .places))
 
-    call-told : (call : MapCall) → evaluates call ≡ false → toldTo e map call ≡ toldTo e (withoutPlaces map) call
+    call-told : (call : MapCall) → evaluates call ≡ false → toldTo e map call ≡ toldTo e (allUnpulled map) call
     unfolding addControlPoint cellPoints setPull
     call-told (entry (insertion withdraws con d ratio position)) other = refl
     call-told (entry (evaluation s t)) other = absurd (false≢true (sym other))
     call-told (entry (question cell)) other =
         ap (λ (outcome : Outcome). cellTold (cellAnswerBy outcome (cellOf (withKnots e map .map .index) cell))) ready-told
-        ∙ ap (λ (index : Index). cellTold (cellAnswerBy (withKnots e (withoutPlaces map) .outcome) (cellOf index cell))) (ap (λ (bare : Tmesh). bare .index) ready-unseen)
-    call-told (entry (pulling n pull)) other = by-tests (isMade (map .mesh .made) n) (canPull pull)
-      where
-        by-tests : (made can : Bool) → outcomeTold (pulledBy made can map n pull .outcome) ≡ outcomeTold (pulledBy made can (withoutPlaces map) n pull .outcome)
-        by-tests true true = refl
-        by-tests true false = refl
-        by-tests false can = refl
+        ∙ ap (λ (index : Index). cellTold (cellAnswerBy (withKnots e (allUnpulled map) .outcome) (cellOf index cell))) (ap (λ (bare : Tmesh). bare .index) ready-unseen)
+    call-told (entry (pulling n pull)) other = refl
     call-told generate-knot-vectors other = ap outcomeTold generated-told
     call-told (point-knot-vectors n) other = refl
     call-told (cast-ray n d buffer) other = refl
     call-told (direct call) other = refl
 
     by-kind : (call : MapCall) (sets : Bool) → setsPull call ≡ sets
-        → withoutPlaces (afterCall e map call) ≡ cond sets (withoutPlaces map) (withoutPlaces (afterCall e (withoutPlaces map) call))
+        → allUnpulled (afterCall e map call) ≡ cond sets (allUnpulled map) (allUnpulled (afterCall e (allUnpulled map) call))
     by-kind call sets is =
-        call-unseen call ∙ ap (λ (b : Bool). cond b (withoutPlaces map) (withoutPlaces (afterCall e (withoutPlaces map) call))) is
+        call-unseen call ∙ ap (λ (b : Bool). cond b (allUnpulled map) (allUnpulled (afterCall e (allUnpulled map) call))) is
 
   -- two maps that are the same but for the places, and the second list without its settings
-  list-unseen : (calls : List MapCall) (one other : Tmesh) → withoutPlaces one ≡ withoutPlaces other
-      → withoutPlaces (mapAfterAll e one calls) ≡ withoutPlaces (mapAfterAll e other (withoutPulls calls))
-  unfolding mapAfterAll withoutPulls
+  list-unseen : (calls : List MapCall) (one other : Tmesh) → allUnpulled one ≡ allUnpulled other
+      → allUnpulled (mapAfterAll e one calls) ≡ allUnpulled (mapAfterAll e other (withoutSettings calls))
+  unfolding mapAfterAll withoutSettings
   list-unseen [] one other same = same
   list-unseen (call ∷ rest) one other same =
-      cond-case (setsPull call) (λ (calls : List MapCall). withoutPlaces (mapAfterAll e (afterCall e one call) rest) ≡ withoutPlaces (mapAfterAll e other calls)) _ _
+      cond-case (setsPull call) (λ (calls : List MapCall). allUnpulled (mapAfterAll e (afterCall e one call) rest) ≡ allUnpulled (mapAfterAll e other calls)) _ _
       (λ sets. list-unseen rest (afterCall e one call) other (by-kind one call true sets ∙ same))
       (λ not.
       list-unseen rest (afterCall e one call) (afterCall e other call)
-      (by-kind one call false not ∙ ap (λ (bare : Tmesh). withoutPlaces (afterCall e bare call)) same ∙ sym (by-kind other call false not)))
+      (by-kind one call false not ∙ ap (λ (bare : Tmesh). allUnpulled (afterCall e bare call)) same ∙ sym (by-kind other call false not)))
 
 pub pulls-unseen : PullsUnseen
 pulls-unseen e map calls = list-unseen e calls map map refl
 
-pub places-untold : PlacesUntold
-places-untold e map call other = call-told e map call other
+pub pulls-untold : PullsUntold
+pulls-untold e map call other = call-told e map call other

@@ -155,7 +155,7 @@ pub record Seeking (e : Float) (store : Store) (con : ℕ) (d : TmeshDirection) 
       ≡ Failed NoPoint → ⊥
 
 -- where 11 is met on a map: a call answers it where a point that it is given was never made, and nowhere else, so that an insertion, an
--- evaluation, a question and the building of all knots never do, nor a walk, a ray or the knots of a made point; and no search of an insertion fails by it
+-- evaluation, a question and the building of all knots never do, nor a walk, a ray, the knots or the setting of the pull of a made point; and no search of an insertion fails by it
 pub record MeetsPoints (map : Tmesh) : Type 0 where
   pub answers : (e : Float) (call : MapCall) → eqb (numberTo e map call) 11 ≡ not (pointsMade map call)
   pub seeks : (e : Float) (con : ℕ) (d : TmeshDirection) (ratio : Float) (position : Position)

@@ -139,15 +139,22 @@ module _ (one other : Tmesh) (same-listing : (n : ℕ) → n < 128 → isListed 
 
 -- ---- the map by whose knots it is
 module _ (e : Float) (map : Tmesh) where
-  -- it has the mesh of the map
-  pub ready-mesh : withKnots e map .map .mesh ≡ map .mesh
-  unfolding withKnots generateKnotVectors
-  ready-mesh = by-test (map .kept) (allKnots e map)
+  -- it has the mesh of the map, which a building leaves
+  pub generated-mesh : generateKnotVectors e map .map .mesh ≡ map .mesh
+  unfolding generateKnotVectors
+  generated-mesh = by-rows (allKnots e map)
     where
-      by-test : (b : Bool) (rows : AllKnots) → cond b (record { outcome = Done; map = map }) (keeping map rows) .map .mesh ≡ map .mesh
-      by-test true rows = refl
-      by-test false (all rows) = refl
-      by-test false (none refusal) = refl
+      by-rows : (rows : AllKnots) → keeping map rows .map .mesh ≡ map .mesh
+      by-rows (all rows) = refl
+      by-rows (none refusal) = refl
+
+  pub ready-mesh : withKnots e map .map .mesh ≡ map .mesh
+  unfolding withKnots
+  ready-mesh = by-test (map .kept)
+    where
+      by-test : (b : Bool) → cond b (record { outcome = Done; map = map }) (generateKnotVectors e map) .map .mesh ≡ map .mesh
+      by-test true = refl
+      by-test false = generated-mesh
 
   module _ (outcome : Outcome) (ready : Tmesh) where
     pub ready-kept : map .kept ≡ true → outcome ≡ Done → ready ≡ map → record { outcome = outcome; map = ready } ≡ withKnots e map

@@ -1,2 +1,2 @@
-// The surface of a map at a place: what an evaluation answers.
+// The surface of a map at (s, t): what an evaluation answers.
 pub mod evaluation;

@@ -1,5 +1,5 @@
 -- `can_pull` meets its contract: each return picks its case by the first test, and 1.0 / 0.0 is the infinity.
-use mathlib.Core.Path.{_≡_, sym, ap, _∙_}
+use mathlib.Core.Path.{sym, ap, _∙_}
 use mathlib.Core.Bool.{Bool, false, _&&_}
 use lib.Ieee.{inf, lt}
 use Rattle.float64.specs.BitsLaws.{infinity}
