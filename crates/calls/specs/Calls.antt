@@ -1,6 +1,7 @@
 -- A list of calls on one map. Its entries are insertions, those that stay where they are torn (`add_control_point`) and those that are then withdrawn (`add_or_withdraw`), evaluations
 -- (`subs`), questions which points reach a cell (`cell_points`) and settings of a point's pull (`set_pull`), in any order, with any arguments, whatever they answer. Each gets the map as the
--- one before left it, after a refusal too. The calls are the definitions that the contracts of the code cite; that of `add_control_point` is by the rule that lets torn insertions stay (`added-staying`, crates/t_mesh/specs/InsertionLaws.antt).
+-- one before left it, after a refusal too. The calls are the definitions that the contracts of the code cite; that of `add_control_point` is by the rule that lets torn insertions stay
+-- (`added-staying`, crates/t_mesh/specs/InsertionLaws.antt).
 use Prim.Native.Nat.{ℕ}
 use mathlib.Core.Bool.{Bool, false}
 use mathlib.Core.List.{List, [], _∷_}

@@ -3,7 +3,8 @@
 -- every insertion of the list that is answered done, then every evaluation of the list whose answer has a positive and finite total
 -- weight lies in 0 to 1 on the axis, both ends included, as the float that it is.
 -- Nothing is asked of the insertions that are refused, torn or withdrawn, of the questions, of the other axes, of what the evaluations are given, or
--- of the list's length; and nothing of the pulls: it holds with any pulls, set anywhere in the list, accepted or refused. `le` and `lt` are f64's comparisons, false where either side is a NaN; `T b` says that the test b is true.
+-- of the list's length; and nothing of the pulls: it holds with any pulls, set anywhere in the list, accepted or refused.
+-- `le` and `lt` are f64's comparisons, false where either side is a NaN; `T b` says that the test b is true.
 use Prim.Native.Nat.{ℕ}
 use mathlib.Core.Path.{_≡_}
 use mathlib.Core.Bool.{Bool, false}

@@ -1,6 +1,7 @@
 -- The map. A position is three floats; a point's place is its position and its pull, by which an evaluation multiplies its weight. Places stand
--- beside the points, since nothing but evaluation reads them: nothing of a mesh's shape can depend on them. A point is listed once its insertion is done; the listing's order is that of the numbers. One flag says whether
--- the knots of the listed points, and the index that is built from them, are kept.
+-- beside the points, since no value but an evaluation's depends on them: nothing of a mesh's shape can. A point is listed once its insertion is
+-- done; the listing's order is that of the numbers. One flag says whether the knots of the listed points, and the index that is built from
+-- them, are kept.
 use Prim.Native.Nat.{ℕ}
 use mathlib.Core.Bool.{Bool, true, false}
 use mathlib.Core.List.{List, [], _∷_, _++_}
