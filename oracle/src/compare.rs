@@ -1,20 +1,21 @@
 //! The published Rust held against the reading on many random maps: every outcome, the whole store, the listing, walks, rays, knots,
 //! evaluations, cells and counts. The first difference stops the run.
 use crate::calls::Call;
-use crate::draw::{MapList, Plan, Withdrawing, cell, full_map, map};
+use crate::draw::{MapList, Plan, Pulls, Withdrawing, cell, full_map, map};
 use crate::map_calls::{MapAnswer, MapCall};
 use crate::random::Random;
 use crate::reading::{Insertion, RING};
 
 /// How often each answer occurs, by kind of call; the links inferred, the insertions withdrawn, the openings, the values with a positive and finite
-/// weight, the cells that a listed point misses, and those that one of number 64 or more reaches.
+/// weight, those with a pull other than 1.0, the cells that a listed point misses, and those that one of number 64 or more reaches.
 #[derive(Default)]
 pub struct Tally {
-    answers: [[u64; 16]; 13],
+    answers: [[u64; 18]; 14],
     openings: u64,
     inferred: u64,
     withdrawn: Withdrawn,
     weighty: u64,
+    pulled: u64,
     missed: u64,
     second_words: u64,
 }
@@ -45,7 +46,7 @@ impl Withdrawn {
     }
 }
 
-const WORDS: [&str; 13] = [
+const WORDS: [&str; 14] = [
     "insertion",
     "withdrawing",
     "ray",
@@ -57,12 +58,19 @@ const WORDS: [&str; 13] = [
     "set-point",
     "cell",
     "counts",
+    "pull set",
     "direct call",
     "walk",
 ];
 
 impl Tally {
-    pub fn count(&mut self, call: MapCall, answer: &MapAnswer) {
+    /// Counts the calls of a list.
+    pub fn count_list(&mut self, list: &MapList) {
+        list.calls.iter().for_each(|(call, answer)| self.count(*call, answer));
+        self.pulled += list.maps.pulled_values;
+    }
+
+    fn count(&mut self, call: MapCall, answer: &MapAnswer) {
         let kind = match call {
             MapCall::Insert { withdraws, .. } => withdraws as usize,
             MapCall::Ray { .. } => 2,
@@ -74,8 +82,9 @@ impl Tally {
             MapCall::SetPoint { .. } => 8,
             MapCall::CellPoints { .. } => 9,
             MapCall::Counts => 10,
-            MapCall::Direct(Call::Navigate(..)) => 12,
-            MapCall::Direct(_) => 11,
+            MapCall::SetPull { .. } => 11,
+            MapCall::Direct(Call::Navigate(..)) => 13,
+            MapCall::Direct(_) => 12,
         };
         self.answers[kind][answer.number() as usize] += 1;
         if let (MapCall::Insert { withdraws: true, .. }, MapAnswer::Inserted(answer)) = (call, answer) {
@@ -101,8 +110,8 @@ impl Tally {
         }
         self.withdrawn.print();
         println!(
-            "links inferred: {}; openings: {}; values with a positive and finite weight: {}",
-            self.inferred, self.openings, self.weighty
+            "links inferred: {}; openings: {}; values with a positive and finite weight: {}; values with a pull other than 1.0: {}",
+            self.inferred, self.openings, self.weighty, self.pulled
         );
         println!(
             "cells that a listed point misses: {}; that a point of number 64 or more reaches: {}",
@@ -112,7 +121,7 @@ impl Tally {
 }
 
 /// The counts, rays of lengths 0 to 5 and walks from every point and side, the knots of every point, some evaluations and cells.
-fn probe(list: &mut MapList, random: &mut Random, tally: &mut Tally) {
+fn probe(list: &mut MapList, random: &mut Random) {
     let mut calls = vec![MapCall::Counts];
     for point in 0..list.maps.made() as u8 {
         for direction in 0..4 {
@@ -126,8 +135,7 @@ fn probe(list: &mut MapList, random: &mut Random, tally: &mut Tally) {
         calls.push(MapCall::CellPoints { cell: cell(random, &list.maps.reading) });
     }
     for call in calls {
-        let answer = list.maps.make(call);
-        tally.count(call, &answer);
+        list.call(call);
     }
 }
 
@@ -137,21 +145,22 @@ pub fn run(seed: u64, maps: usize) {
     let mut left_behind = 0;
     for place in 0..maps {
         let withdrawing = Withdrawing::of(place);
+        let pulls = Pulls::drawn(&mut random);
         let mut list = if place % 50 == 0 {
-            full_map(&mut random, withdrawing)
+            full_map(&mut random, withdrawing, pulls)
         } else {
             let edits = random.of(&[3, 6, 10, 20, 40]);
-            let plan = Plan { edits: random.below(edits) + 1, questions: true, direct_calls: place % 10 == 0, withdrawing };
+            let plan = Plan { edits: random.below(edits) + 1, questions: true, direct_calls: place % 10 == 0, withdrawing, pulls };
             map(&mut random, plan)
         };
-        list.calls.iter().for_each(|(call, answer)| tally.count(*call, answer));
         list.maps.assert_same();
         if list.maps.followed {
-            probe(&mut list, &mut random, &mut tally);
+            probe(&mut list, &mut random);
             list.maps.assert_same();
         } else {
             left_behind += 1;
         }
+        tally.count_list(&list);
     }
     println!("{maps} maps agree; {left_behind} of them were compared only up to an insertion torn by a ring that stays");
     println!("answers, by number:");

@@ -51,6 +51,17 @@ impl MapList {
         let position = position(random);
         self.call(MapCall::Insert { withdraws, con, direction, ratio, position })
     }
+
+    /// Sets a pull: the answer's number.
+    pub fn set_pull(&mut self, point: u8, pull: f64) -> u8 {
+        self.call(MapCall::SetPull { point, pull }).number()
+    }
+
+    /// Sets a pull drawn for a point drawn.
+    fn set_some_pull(&mut self, random: &mut Random, pulls: Pulls) {
+        let point = pulled_point(random, &self.maps.reading);
+        self.set_pull(point, pulls.next(random));
+    }
 }
 
 fn coordinate(random: &mut Random) -> f64 {
@@ -129,6 +140,51 @@ impl Withdrawing {
             Withdrawing::AtTimes => random.one_in(2),
             Withdrawing::Always => true,
         }
+    }
+}
+
+/// Pulls that are accepted.
+pub const PULLS: [f64; 11] = [0.0, -0.0, 0.5, 2.0, 3.0, 1.0 / 3.0, 1e300, 5e-324, 1e-310, f64::MIN_POSITIVE, f64::MAX];
+
+/// Pulls that are refused.
+pub const NO_PULLS: [f64; 7] = [-1.0, -0.5, -5e-324, f64::MIN, f64::INFINITY, f64::NEG_INFINITY, f64::NAN];
+
+/// Which pulls are set on a map.
+#[derive(Clone, Copy, PartialEq)]
+pub enum Pulls {
+    Never,
+    /// 1.0, and such as are refused: the published Rust has the same values.
+    Plain,
+    Any,
+}
+
+impl Pulls {
+    /// One map in four has some set.
+    pub fn drawn(random: &mut Random) -> Pulls {
+        if random.one_in(4) { random.of(&[Pulls::Plain, Pulls::Any, Pulls::Any]) } else { Pulls::Never }
+    }
+
+    /// The next pull. Huge and tiny ones are rare: beside them no other counts.
+    fn next(self, random: &mut Random) -> f64 {
+        match random.below(12) {
+            0 => random.of(&NO_PULLS),
+            1..=3 if self == Pulls::Any => 2.0 * random.unit(),
+            4..=6 if self == Pulls::Any => random.of(&[0.0, -0.0, 0.5, 2.0, 3.0]),
+            7 if self == Pulls::Any => random.of(&PULLS),
+            _ => 1.0,
+        }
+    }
+}
+
+/// A point whose pull is set: a listed one most often, one that is made and not listed where there is one, or any number.
+pub fn pulled_point(random: &mut Random, map: &Map) -> u8 {
+    let made = map.store.made();
+    let unlisted: Vec<u8> = (0..made as u8).filter(|point| !map.listed.contains(point)).collect();
+    match random.below(8) {
+        0 => random.below(256) as u8,
+        1 => random.below(made + 1) as u8,
+        2 | 3 if !unlisted.is_empty() => random.of(&unlisted),
+        _ => random.of(&map.listed),
     }
 }
 
@@ -228,10 +284,11 @@ pub struct Plan {
     pub questions: bool,
     pub direct_calls: bool,
     pub withdrawing: Withdrawing,
+    pub pulls: Pulls,
 }
 
 /// A map after random edits, asked in between and most often after torn ones, which keep the knots whether they stay or not. A cell is asked for before and after an edit,
-/// and after a direct call that follows it.
+/// and after a direct call or a setting that follows it. One edit in three is followed by a setting where pulls are set, and four settings come at the end.
 pub fn map(random: &mut Random, plan: Plan) -> MapList {
     let corners = std::array::from_fn(|_| position(random));
     let mut list = MapList::new(corners, border(random));
@@ -272,6 +329,16 @@ pub fn map(random: &mut Random, plan: Plan) -> MapList {
                 list.ask(cell);
             }
         }
+        if plan.pulls != Pulls::Never && random.one_in(3) {
+            list.set_some_pull(random, plan.pulls);
+            list.ask(cell);
+            if plan.questions && random.one_in(2) {
+                list.call(evaluation(random));
+            }
+        }
+    }
+    if plan.pulls != Pulls::Never {
+        (0..4).for_each(|_| list.set_some_pull(random, plan.pulls));
     }
     if plan.questions {
         list.call(evaluation(random));
@@ -281,8 +348,8 @@ pub fn map(random: &mut Random, plan: Plan) -> MapList {
 }
 
 /// A map whose store is filled, and edits beyond.
-pub fn full_map(random: &mut Random, withdrawing: Withdrawing) -> MapList {
-    let plan = Plan { edits: 100, questions: false, direct_calls: false, withdrawing };
+pub fn full_map(random: &mut Random, withdrawing: Withdrawing, pulls: Pulls) -> MapList {
+    let plan = Plan { edits: 100, questions: false, direct_calls: false, withdrawing, pulls };
     let mut list = map(random, plan);
     let mut edits = 0;
     while edits < 600 && (list.maps.made() < CAPACITY || edits % 4 != 0) {

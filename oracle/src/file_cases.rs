@@ -1,7 +1,7 @@
 //! Map files of both versions, each with the whole text that the program prints of it and what the C calls answer at some places and cells.
 use crate::bytes::Bytes;
 use crate::compare::Withdrawn;
-use crate::draw::{MapList, Plan, RING_PREFIXES, Withdrawing, cell, evaluation, full_map, map, position};
+use crate::draw::{MapList, Plan, Pulls, RING_PREFIXES, Withdrawing, cell, evaluation, full_map, map, position};
 use crate::map_calls::{MapAnswer, MapCall, put_cell};
 use crate::map_cases::{AROUND_TWICE, AT_THE_CAPS, SQUARE, WITHDRAWN};
 use crate::map_file::{
@@ -155,7 +155,7 @@ fn file_of(version: u8, list: &MapList) -> MapFile {
 
 /// The file of a drawn map with so many edits.
 fn drawn_file(random: &mut Random, version: u8, edits: usize) -> MapFile {
-    let plan = Plan { edits, questions: false, direct_calls: false, withdrawing: withdrawing(version) };
+    let plan = Plan { edits, questions: false, direct_calls: false, withdrawing: withdrawing(version), pulls: Pulls::Never };
     file_of(version, &map(random, plan))
 }
 
@@ -186,7 +186,7 @@ fn refused_evaluations(random: &mut Random, version: u8) -> Vec<Vec<u8>> {
 
 /// The file of a map whose store is filled.
 fn full_file(random: &mut Random, version: u8) -> MapFile {
-    file_of(version, &full_map(random, withdrawing(version)))
+    file_of(version, &full_map(random, withdrawing(version), Pulls::Never))
 }
 
 fn full_stores(random: &mut Random, version: u8) -> Vec<Vec<u8>> {

@@ -25,6 +25,8 @@ pub enum MapCall {
     CellPoints { cell: u8 },
     /// The counts of the map.
     Counts,
+    /// A point's pull set.
+    SetPull { point: u8, pull: f64 },
     Direct(Call),
 }
 
@@ -41,6 +43,7 @@ pub enum MapAnswer {
     /// How many points are listed, and the cell.
     Reached(usize, Result<Cell, u8>),
     Counted(Census),
+    Pulled(Result<(), u8>),
     Direct(Answer),
 }
 
@@ -52,7 +55,7 @@ impl MapAnswer {
             MapAnswer::Cast(answer) => answer.as_ref().err().copied().unwrap_or(0),
             MapAnswer::Knotted(answer) => answer.err().unwrap_or(0),
             MapAnswer::Evaluated(answer) => answer.err().unwrap_or(0),
-            MapAnswer::Generated(answer) => answer.err().unwrap_or(0),
+            MapAnswer::Generated(answer) | MapAnswer::Pulled(answer) => answer.err().unwrap_or(0),
             MapAnswer::Opened(..) | MapAnswer::Counted(_) => 0,
             MapAnswer::Reached(_, answer) => answer.err().unwrap_or(0),
             MapAnswer::Direct(answer) => answer.number,
@@ -71,6 +74,8 @@ pub struct Maps {
     same_knots: bool,
     /// What the insertions answered, until the first direct call, which may change sides by itself.
     ledger: Option<Ledger>,
+    /// How many values were the reading's alone, since the pull of a listed point was not 1.0.
+    pub pulled_values: u64,
     pub corners: [[f64; 3]; 4],
     pub border: f64,
 }
@@ -87,6 +92,7 @@ impl Maps {
             followed: true,
             same_knots: true,
             ledger: Some(Ledger::default()),
+            pulled_values: 0,
             corners,
             border,
         }
@@ -113,6 +119,7 @@ impl Maps {
             MapCall::Openings => MapAnswer::Opened(self.openings()),
             MapCall::CellPoints { cell } => MapAnswer::Reached(self.reading.listed.len(), self.cell_points(cell)),
             MapCall::Counts => MapAnswer::Counted(self.census()),
+            MapCall::SetPull { point, pull } => MapAnswer::Pulled(self.reading.set_pull(point, pull)),
             MapCall::Direct(call) => {
                 self.ledger = None;
                 MapAnswer::Direct(self.direct(call))
@@ -166,15 +173,27 @@ impl Maps {
         answer
     }
 
+    /// The published map has no pulls: its value is the same where every listed point has the pull 1.0. Where one has another it builds its knots, or refuses,
+    /// as the reading does.
     fn evaluate(&mut self, s: f64, t: f64) -> Result<Value, u8> {
         let converts = self.reading.kept.is_some() || self.conversion_ends();
         let answer = self.reading.subs(s, t);
+        let pulled = self.is_pulled();
+        self.pulled_values += (pulled && answer.is_ok()) as u64;
         if self.builds_alike(answer.err(), converts) {
             let published = self.original.subs(s, t).map(bits);
-            assert_eq!(published, answer.map(|value| bits(value.position)), "evaluation at {s} {t}");
+            assert_eq!(published.err(), answer.err(), "knots for a value");
+            if !pulled {
+                assert_eq!(published, answer.map(|value| bits(value.position)), "evaluation at {s} {t}");
+            }
             self.assert_same_knots();
         }
         answer
+    }
+
+    /// Whether a listed point has another pull than 1.0.
+    pub fn is_pulled(&self) -> bool {
+        self.reading.listed.iter().any(|&point| self.reading.pulls[point as usize] != 1.0)
     }
 
     /// The published map has no index: it builds its knots for a value, as the reading does for the cell, and the cell is read from its listing
@@ -263,7 +282,7 @@ impl Maps {
         let answer = perform(&mut self.reading.store, call);
         if let Call::Make(_) = call {
             if answer.number == 0 {
-                self.reading.positions.push([0.0; 3]);
+                self.reading.record([0.0; 3]);
             }
         }
         if self.followed && ![NO_POINT, FULL, RING].contains(&answer.number) {
@@ -327,6 +346,10 @@ pub fn put_map_call(out: &mut Bytes, call: MapCall) {
         MapCall::SetPoint { s, t } => at_place(7, s, t),
         MapCall::CellPoints { cell } => [8, cell].iter().for_each(|n| out.byte(*n)),
         MapCall::Counts => out.byte(9),
+        MapCall::SetPull { point, pull } => {
+            [11, point].iter().for_each(|n| out.byte(*n));
+            out.float(pull);
+        }
         MapCall::Direct(call) => {
             let start = out.0.len();
             put_call(out, call);
@@ -389,13 +412,15 @@ fn put_knots(out: &mut Bytes, knots: &Knots) {
 }
 
 /// A map's bytes at the end of a list: its points, then for each point made whether it is listed, then whether knots are kept, then each
-/// point's position, then the knots kept of each listed point.
+/// point's position and its pull, then the knots kept of each listed point.
 pub fn put_map(out: &mut Bytes, map: &reading::Map) {
     put_points(out, &map.store.points);
     for point in 0..map.store.made() {
         out.byte(map.listed.contains(&(point as u8)) as u8);
     }
     out.byte(map.kept.is_some() as u8);
-    map.positions.iter().flatten().for_each(|x| out.float(*x));
+    for (position, pull) in map.positions.iter().zip(&map.pulls) {
+        position.iter().chain([pull]).for_each(|x| out.float(*x));
+    }
     map.kept.iter().flatten().for_each(|knots| put_knots(out, knots));
 }

@@ -1,16 +1,18 @@
 //! Lists of calls on whole maps, each with the answer of every call and the map at the end.
 use crate::bytes::Bytes;
 use crate::calls::Call;
-use crate::draw::{MapList, Plan, RING_PREFIXES, Withdrawing, cell, evaluation, full_map, map, question};
+use crate::draw::{MapList, NO_PULLS, Plan, Pulls, RING_PREFIXES, Withdrawing, cell, evaluation, full_map, map, question};
 use crate::index::{Cell, LINES};
 use crate::ledger::Census;
 use crate::map_calls::{MapAnswer, MapCall, put_map, put_map_answer, put_map_call};
 use crate::map_file::{SAMPLES, bits, sample};
 use crate::random::Random;
-use crate::reading::{BORDER, CAPACITY, DOWN, FOREIGN, FULL, INTERVAL, Insertion, LEFT, NO_WEIGHT, OPEN_SIDE, RATIO, RIGHT, TORN, UP};
+use crate::reading::{
+    BORDER, CAPACITY, DOWN, FOREIGN, FULL, INTERVAL, Insertion, LEFT, NO_POINT, NO_WEIGHT, OPEN_SIDE, PULL, RATIO, RIGHT, TORN, UP, Value,
+};
 
 const ALL_RAYS: usize = 24;
-const SOME_RAYS: usize = 170;
+const SOME_RAYS: usize = 152;
 const DIRECT_CALLS: usize = 60;
 const FULL_STORES: usize = 6;
 const EVERY_LENGTH: [usize; 6] = [0, 1, 2, 3, 4, 5];
@@ -182,7 +184,163 @@ fn worked_examples(random: &mut Random) -> Vec<MapList> {
     lists.extend([withdrawn_kept(random), withdrawn_inferred(random), withdrawn_far_end(random), withdrawn_number(random)]);
     lists.extend([withdrawn_full(random), withdrawing_refused(random), of_sample(SAMPLES[1])]);
     lists.extend(WITHDRAWN.map(|edits| edited(random, true, edits, &[2, 5])));
+    lists.extend([pulled_kept(random), pulled_unlisted(random), pulled_new(random), pulls_refused(), no_pull(), largest_pulls()]);
+    lists.extend([pulled_order(), pulls_lent(random), pulls_withdrawn(random)]);
     lists
+}
+
+const PLACE: (f64, f64) = (0.25, 0.75);
+
+fn value_at(list: &mut MapList, (s, t): (f64, f64)) -> Value {
+    let MapAnswer::Evaluated(Ok(value)) = list.call(MapCall::Evaluate { s, t }) else { panic!("a refusal") };
+    value
+}
+
+/// A setting leaves the knots kept and their index, here those of before a torn insertion: built anew they are others. Where none are kept, none are after
+/// it. The pull set last stands.
+fn pulled_kept(random: &mut Random) -> MapList {
+    let mut list = square();
+    assert_eq!(list.insert(random, 0, RIGHT, 0.5).number(), 0);
+    assert_eq!(list.set_pull(0, 1.0), 0);
+    assert!(list.maps.reading.kept.is_none());
+    let (plain, cell) = (bits(&value_at(&mut list, PLACE)), reached(&mut list, 15));
+    assert_eq!(list.insert(random, 0, RIGHT, 0.0).number(), TORN);
+    for (pull, number, same) in [(2.0, 0, false), (f64::NAN, PULL, false), (3.0, 0, false), (1.0, 0, true), (1.0, 0, true)] {
+        assert_eq!(list.set_pull(0, pull), number);
+        assert_eq!(bits(&value_at(&mut list, PLACE)) == plain, same);
+        assert_eq!(reached(&mut list, 15), cell);
+    }
+    assert_eq!(list.set_pull(4, 0.5), 0);
+    assert_eq!(list.call(MapCall::Generate).number(), 0);
+    assert_ne!(reached(&mut list, 15), cell);
+    assert_eq!(list.set_pull(4, 1.0), 0);
+    assert_ne!(bits(&value_at(&mut list, PLACE)), plain);
+    assert_eq!(list.set_pull(1, 3.0), 0);
+    list
+}
+
+/// The pulls of a torn point and of one made alone: no value depends on them.
+fn pulled_unlisted(random: &mut Random) -> MapList {
+    let mut list = square();
+    assert_eq!(list.insert(random, 0, RIGHT, 0.0).number(), TORN);
+    assert_eq!(list.call(MapCall::Direct(Call::Make(1.0))).number(), 0);
+    let plain = bits(&value_at(&mut list, PLACE));
+    for point in [4, 5] {
+        assert_eq!(list.set_pull(point, f64::MAX), 0);
+        assert_eq!(bits(&value_at(&mut list, PLACE)), plain);
+    }
+    list
+}
+
+/// A number never made has no pull to be set. The point that has it then, of an insertion done, torn, or withdrawn first, or made alone, has the pull 1.0.
+fn pulled_new(random: &mut Random) -> MapList {
+    let mut list = square();
+    let refused = |list: &mut MapList| {
+        let next = list.maps.made() as u8;
+        assert_eq!(list.set_pull(next, 2.0), NO_POINT);
+    };
+    refused(&mut list);
+    assert_eq!(list.insert(random, 0, RIGHT, 0.5).number(), 0);
+    value_at(&mut list, PLACE);
+    refused(&mut list);
+    assert_eq!(list.insert(random, 0, RIGHT, 0.0).number(), TORN);
+    refused(&mut list);
+    assert_eq!(list.insert_or_withdraw(random, 0, RIGHT, 0.0).number(), TORN);
+    refused(&mut list);
+    assert_eq!(list.insert_or_withdraw(random, 4, RIGHT, 0.5).number(), 0);
+    refused(&mut list);
+    assert_eq!(list.call(MapCall::Direct(Call::Make(1.0))).number(), 0);
+    value_at(&mut list, PLACE);
+    list
+}
+
+/// 11 before 17, and the value as it was after either; −0.0 is accepted, and leaves a point out as 0.0 does.
+fn pulls_refused() -> MapList {
+    let mut list = square();
+    assert_eq!(list.set_pull(2, 0.5), 0);
+    let before = bits(&value_at(&mut list, PLACE));
+    for pull in NO_PULLS {
+        for (point, number) in [(4, NO_POINT), (127, NO_POINT), (128, NO_POINT), (255, NO_POINT), (2, PULL)] {
+            assert_eq!(list.set_pull(point, pull), number);
+            assert_eq!(bits(&value_at(&mut list, PLACE)), before);
+        }
+    }
+    let left_out = [-0.0, 0.0].map(|pull| {
+        assert_eq!(list.set_pull(2, pull), 0);
+        bits(&value_at(&mut list, PLACE))
+    });
+    assert_eq!(left_out[0], left_out[1]);
+    assert_eq!(list.set_pull(2, -0.0), 0);
+    list
+}
+
+/// With every pull 0.0 or −0.0 no weight is left; with one point's pull back, the value is that point's position.
+fn no_pull() -> MapList {
+    let mut list = square();
+    let (s, t) = PLACE;
+    for (point, pull) in [(0, 0.0), (1, -0.0), (2, 0.0), (3, 0.0)] {
+        assert_eq!(list.call(MapCall::SetPoint { s, t }).number(), 0);
+        assert_eq!(list.set_pull(point, pull), 0);
+    }
+    assert!(value_at(&mut list, PLACE).weight == 0.0);
+    assert_eq!(list.call(MapCall::SetPoint { s, t }).number(), NO_WEIGHT);
+    assert_eq!(list.set_pull(3, 1.0), 0);
+    assert_eq!(value_at(&mut list, PLACE).position, SQUARE[3]);
+    assert_eq!(list.call(MapCall::SetPoint { s, t }).number(), 0);
+    list
+}
+
+/// The largest pulls: on the square the weights add up to a finite one, and a position outside of 0 to 1 makes the sum of its axis infinite.
+fn largest_pulls() -> MapList {
+    let mut list = MapList::new([[0.0, 0.0, 10.0], SQUARE[1], SQUARE[2], SQUARE[3]], 1.0);
+    for point in 0..4 {
+        assert_eq!(list.set_pull(point, f64::MAX), 0);
+    }
+    let MapAnswer::Evaluated(Ok(value)) = list.call(MapCall::SetPoint { s: 0.5, t: 0.5 }) else { panic!("a refusal") };
+    assert_eq!(value.position.map(f64::is_finite), [true, true, false]);
+    list
+}
+
+/// The basis product is rounded before the pull is multiplied in: with the smallest pull it decides whether a weight is left.
+fn pulled_order() -> MapList {
+    let mut list = square();
+    for point in 0..4 {
+        assert_eq!(list.set_pull(point, 5e-324), 0);
+    }
+    for (s, t) in [(0.5, 0.5), PLACE, (0.125, 0.625), (0.0, 0.0), (0.75, 0.875)] {
+        value_at(&mut list, (s, t));
+    }
+    list
+}
+
+/// Pulls are lent with the positions, and a lent value is the same as another.
+fn pulls_lent(random: &mut Random) -> MapList {
+    let mut list = square();
+    assert_eq!(list.insert(random, 0, RIGHT, 0.5).number(), 0);
+    for (point, pull) in [(0, 3.0), (1, 0.1), (2, 1.7), (3, 1e300), (4, 0.0), (3, 0.7), (4, 5.0)] {
+        assert_eq!(list.set_pull(point, pull), 0);
+        for (s, t) in [PLACE, (0.5, 0.5)] {
+            let value = list.call(MapCall::Evaluate { s, t });
+            assert_same_value(&value, &list.call(MapCall::Lend { s, t }));
+        }
+    }
+    list
+}
+
+/// The pulls set before a withdrawn insertion stay, and so do those set before one that is done.
+fn pulls_withdrawn(random: &mut Random) -> MapList {
+    let mut list = square();
+    for (point, pull) in [(0, 3.0), (2, 0.3)] {
+        assert_eq!(list.set_pull(point, pull), 0);
+    }
+    let before = bits(&value_at(&mut list, PLACE));
+    assert_eq!(list.insert_or_withdraw(random, 0, RIGHT, 0.0).number(), TORN);
+    assert_eq!(bits(&value_at(&mut list, PLACE)), before);
+    assert_eq!(list.set_pull(4, 2.0), NO_POINT);
+    assert_eq!(list.insert_or_withdraw(random, 0, RIGHT, 0.5).number(), 0);
+    value_at(&mut list, PLACE);
+    assert_eq!(list.maps.reading.pulls, [3.0, 1.0, 0.3, 1.0, 1.0]);
+    list
 }
 
 fn same_answers(before: &MapAnswer, after: &MapAnswer) -> bool {
@@ -657,7 +815,8 @@ pub fn write(seed: u64) {
     for place in 0..ALL_RAYS + SOME_RAYS + DIRECT_CALLS {
         let direct_calls = place >= ALL_RAYS + SOME_RAYS;
         let edits = 1 + if place < ALL_RAYS { place % 9 } else { random.below(28) };
-        let mut list = map(&mut random, Plan { edits, questions: true, direct_calls, withdrawing: Withdrawing::of(place) });
+        let pulls = Pulls::drawn(&mut random);
+        let mut list = map(&mut random, Plan { edits, questions: true, direct_calls, withdrawing: Withdrawing::of(place), pulls });
         if place < ALL_RAYS {
             rays(&mut list, &EVERY_LENGTH);
         } else {
@@ -666,7 +825,8 @@ pub fn write(seed: u64) {
         lists.push(list);
     }
     for place in 0..FULL_STORES {
-        let mut list = full_map(&mut random, Withdrawing::of(place));
+        let pulls = Pulls::drawn(&mut random);
+        let mut list = full_map(&mut random, Withdrawing::of(place), pulls);
         some_rays(&mut list, &mut random);
         lists.push(list);
     }
@@ -678,7 +838,7 @@ pub fn write(seed: u64) {
 
 fn print_table(lists: &[MapList]) {
     let mut tally = crate::compare::Tally::default();
-    lists.iter().flat_map(|list| &list.calls).for_each(|(call, answer)| tally.count(*call, answer));
+    lists.iter().for_each(|list| tally.count_list(list));
     let alone = lists.iter().filter(|list| !list.maps.followed).count();
     println!(
         "{} lists, {} calls; {alone} lists hold an insertion torn by a ring that stays, after which the reading alone answers",

@@ -4,7 +4,7 @@
 use crate::basis_cases;
 use crate::bound;
 use crate::compare::Tally;
-use crate::draw::{MapList, Plan, Withdrawing, full_map, map, parameter};
+use crate::draw::{MapList, Plan, Pulls, Withdrawing, full_map, map, parameter};
 use crate::file_cases;
 use crate::map_calls::MapCall;
 use crate::map_cases;
@@ -108,7 +108,6 @@ fn lines<C: Debug>(calls: &[C]) -> String {
 }
 
 /// Rays of length 5 from every point and side, the knots of every point, the openings, the counts, and values and cells, after what was drawn.
-/// Somewhere among the values the knots of all points are built anew.
 fn probed(mut list: MapList, random: &mut Random) -> MapList {
     for point in 0..list.maps.made() as u8 {
         for direction in 0..4 {
@@ -118,6 +117,12 @@ fn probed(mut list: MapList, random: &mut Random) -> MapList {
     }
     list.call(MapCall::Openings);
     list.call(MapCall::Counts);
+    some_values(&mut list, random);
+    list
+}
+
+/// Values, with cells between them. Somewhere among them the knots of all points are built anew.
+fn some_values(list: &mut MapList, random: &mut Random) {
     let generation = random.below(VALUES + 1);
     for value in 0..VALUES {
         if value == generation {
@@ -129,21 +134,22 @@ fn probed(mut list: MapList, random: &mut Random) -> MapList {
             1 => MapCall::SetPoint { s, t },
             _ => MapCall::Evaluate { s, t },
         });
-        map_cases::some_cells(&mut list, random, value % 2);
+        map_cases::some_cells(list, random, value % 2);
     }
-    list
 }
 
 fn map_list(random: &mut Random, place: usize) -> MapList {
     let withdrawing = Withdrawing::of(place);
+    let pulls = Pulls::drawn(random);
     if place % 100 == 0 {
-        let mut list = full_map(random, withdrawing);
+        let mut list = full_map(random, withdrawing, pulls);
         map_cases::some_cells(&mut list, random, CELLS);
         list.call(MapCall::Counts);
+        some_values(&mut list, random);
         return list;
     }
     let edits = random.of(&[3, 6, 10, 20, 40]);
-    let plan = Plan { edits: random.below(edits) + 1, questions: true, direct_calls: place % 5 == 0, withdrawing };
+    let plan = Plan { edits: random.below(edits) + 1, questions: true, direct_calls: place % 5 == 0, withdrawing, pulls };
     let list = map(random, plan);
     probed(list, random)
 }
@@ -167,7 +173,7 @@ fn maps(random: &mut Random, count: usize) -> usize {
         count,
         |place| {
             let list = map_list(random, place);
-            list.calls.iter().for_each(|(call, answer)| tally.count(*call, answer));
+            tally.count_list(&list);
             torn_by_rings += !list.maps.followed as usize;
             let case = map_cases::encoded(&list);
             (list, case)

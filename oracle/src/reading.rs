@@ -17,6 +17,7 @@ pub const RING: u8 = 9;
 pub const FULL: u8 = 10;
 pub const NO_POINT: u8 = 11;
 pub const NO_WEIGHT: u8 = 15;
+pub const PULL: u8 = 17;
 
 pub const CAPACITY: usize = 128;
 
@@ -384,11 +385,12 @@ impl Value {
     }
 }
 
-/// A map: its points, their positions, which are listed, and the knots kept.
+/// A map: its points, their positions and pulls, which are listed, and the knots kept.
 #[derive(Clone, Debug)]
 pub struct Map {
     pub store: Store,
     pub positions: Vec<[f64; 3]>,
+    pub pulls: Vec<f64>,
     pub listed: Vec<u8>,
     pub kept: Option<Vec<Knots>>,
 }
@@ -407,7 +409,25 @@ impl Map {
             store.put(other, opposite(d), Side::Opening);
             store.connect(point, other, d, 1.0).expect("both sides are open");
         }
-        Map { store, positions: corners.to_vec(), listed: vec![0, 1, 2, 3], kept: None }
+        let mut map = Map { store, positions: Vec::new(), pulls: Vec::new(), listed: vec![0, 1, 2, 3], kept: None };
+        corners.into_iter().for_each(|corner| map.record(corner));
+        map
+    }
+
+    /// The record of a point just made gets its position, and the pull 1.0.
+    pub fn record(&mut self, position: [f64; 3]) {
+        self.positions.push(position);
+        self.pulls.push(1.0);
+    }
+
+    /// Sets the pull of a point, listed or not (Ticket 6 of document 02).
+    pub fn set_pull(&mut self, point: u8, pull: f64) -> Refused<()> {
+        self.store.holds(point)?;
+        if pull < 0.0 || pull.is_infinite() || pull.is_nan() {
+            return Err(PULL);
+        }
+        self.pulls[point as usize] = pull;
+        Ok(())
     }
 
     /// The interval stored on a side, for a link or a border.
@@ -441,10 +461,10 @@ impl Map {
             Ok(place) => place,
             Err(number) => return Insertion::Refused(number),
         };
+        self.store.remove_connection(con, d).expect("the side is a link");
+        let p = self.store.make(0.0).expect("the store has room");
+        self.record(position);
         let store = &mut self.store;
-        store.remove_connection(con, d).expect("the side is a link");
-        let p = store.make(0.0).expect("the store has room");
-        self.positions.push(position);
         store.put(p, d, Side::Opening);
         store.put(p, opposite(d), Side::Opening);
         store.connect(con, p, d, interval * ratio).expect("both sides are open");
@@ -505,7 +525,8 @@ impl Map {
         self.keep_knots()?;
         let mut value = Value { position: [0.0; 3], weight: 0.0 };
         for (knots, &point) in self.kept.iter().flatten().zip(&self.listed) {
-            let weight = basis_function(s, &knots.s) * basis_function(t, &knots.t);
+            let basis_product = basis_function(s, &knots.s) * basis_function(t, &knots.t);
+            let weight = basis_product * self.pulls[point as usize];
             for axis in 0..3 {
                 value.position[axis] += self.positions[point as usize][axis] * weight;
             }
