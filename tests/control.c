@@ -256,6 +256,10 @@ static void map_call(size_t *made)
     case 10:
         *made += insertion("withdrawing insertion", 1);
         break;
+    case 11:
+        skip(9);
+        number("set_pull");
+        break;
     default: {
         if (kind < 16)
             fail("case %zu has a call of kind %zu", case_count, kind);
@@ -308,6 +312,7 @@ static void read_map(void)
         answer(8, "position: x");
         answer(8, "position: y");
         answer(8, "position: z");
+        answer(8, "pull");
     }
     for (size_t n = 0; n < kept * listed; n++)
         row("row kept");
@@ -392,12 +397,13 @@ static const char *const map_parts[] = {
     "openings: direction 1", "openings: direction 2", "openings: direction 3", TWO_OPENINGS, "lent value 0: number", "lent value 4: number",
     "lent value: x", "lent value: weight", "set-point 0: number", "set-point 4: number", "set-point 15: number", "set-point: x",
     "set-point: weight", "cell 0: number", "cell 3: number", "cell 4: number", "cell 9: number", "cell: first word", "cell: second word",
-    "cell: count", "counts: points made", "counts: points listed", "counts: links", "counts: borders", "point made 0: number",
+    "cell: count", "counts: points made", "counts: points listed", "counts: links", "counts: borders", "set_pull 0: number",
+    "set_pull 11: number", "set_pull 17: number", "point made 0: number",
     "connect 0: number", "remove_connection 0: number", "remove_edge_condition 0: number", "set_edge_con_weight 0: number",
     "set_knot_coordinates 0: number", "walk 0: number", "walk: point", "walk: moves", "walk: sum", "points made", "side 0: kind 0",
     "side 1: kind 1", "side 2: kind 2", "side 3: point linked", "side 0: interval", "side 1: weight", "coordinate s", "coordinate t",
-    "listed: 0", "listed: 1", "kept: 0", "kept: 1", "position: x", "position: y", "position: z", "row kept: s1", "row kept: s5",
-    "row kept: t1", "row kept: t5", "length", "number of calls", NULL
+    "listed: 0", "listed: 1", "kept: 0", "kept: 1", "position: x", "position: y", "position: z", "pull", "row kept: s1",
+    "row kept: s5", "row kept: t1", "row kept: t5", "length", "number of calls", NULL
 };
 static const char *const file_parts[] = {
     "report: edit refused 1", "report: edit refused 2", "report: edit refused 3", "report: edit refused 4", "report: edit refused 8",

@@ -17,7 +17,6 @@ use Rattle.control_point.specs.declared.refusal.Outcome.the-variants.{Done as S
 use Rattle.grid_index.specs.Index.{noKnots}
 use Rattle.grid_index.specs.declared.Cell.{Cell}
 use Rattle.openings.specs.declared.list.Openings.{Openings}
-use Rattle.surface.specs.Evaluation.{noPosition}
 use Rattle.surface.specs.declared.evaluation.Evaluation.{Evaluation}
 use Rattle.surface.specs.declared.evaluation.EvaluationAnswer.{EvaluationAnswer}
 use Rattle.surface.specs.declared.evaluation.EvaluationAnswer.the-variants.{Is, Refused as NotEvaluated}
@@ -28,7 +27,8 @@ use Rattle.ray.specs.declared.knots.PointKnots.{PointKnots}
 use Rattle.store.specs.declared.store.Store.{Store}
 use Rattle.stored_calls.specs.Points.{hasBits, storeIsRight}
 use Rattle.big_endian.specs.BigEndian.{byteAt, numberAt, floatAt}
-use Rattle.t_mesh.specs.Tmesh.{listedIn, meshStore}
+use Rattle.t_mesh.specs.Tmesh.{listedIn, meshStore, noPlace}
+use Rattle.t_mesh.specs.declared.t_mesh.Place.{Place}
 use Rattle.t_mesh.specs.declared.t_mesh.Position.{Position}
 use Rattle.t_mesh.specs.declared.t_mesh.Tmesh.{Tmesh}
 use Rattle.map_replay.specs.declared.answers.Judged.{Judged}
@@ -91,9 +91,9 @@ unfoldable pub evaluationJudged : EvaluationAnswer → List ℕ → Judged
 evaluationJudged (Is value) call = record { right = eqb (byteAt call 17) 0 && valueIsRight value (drop 18 call); bytes = 50 }
 evaluationJudged (NotEvaluated refusal) call = record { right = eqb (byteAt call 17) (refusalNumber refusal); bytes = 18 }
 
--- the knots of all listed points held against the number stored
-abbrev pub generationJudged : Outcome → List ℕ → Judged
-generationJudged outcome call = record { right = eqb (outcomeNumber outcome) (byteAt call 1); bytes = 2 }
+-- a call that answers a number alone held against the one stored at a place: the knots of all listed points, or the setting of a pull
+abbrev pub outcomeJudged : Outcome → ℕ → List ℕ → Judged
+outcomeJudged outcome at call = record { right = eqb (outcomeNumber outcome) (byteAt call at); bytes = at + 1 }
 
 -- whether both words of a cell and their count are those that bytes begin with
 abbrev pub cellIsRight : Cell → List ℕ → Bool
@@ -157,10 +157,14 @@ abbrev pub positionIsRight : Position → List ℕ → Bool
 positionIsRight position bytes =
     hasBits (position .x) (numberAt 8 bytes 0) && (hasBits (position .y) (numberAt 8 bytes 8) && hasBits (position .z) (numberAt 8 bytes 16))
 
--- whether bytes begin with the first so many positions
-unfoldable pub positionsAreRight : ℕ → List Position → List ℕ → Bool
-positionsAreRight zero positions bytes = true
-positionsAreRight (suc n) positions bytes = positionsAreRight n positions bytes && positionIsRight (getD positions n noPosition) (drop (n * 24) bytes)
+-- whether a place is the one that bytes begin with: its position, then its pull
+abbrev pub placeIsRight : Place → List ℕ → Bool
+placeIsRight place bytes = positionIsRight (place .position) bytes && hasBits (place .pull) (numberAt 8 bytes 24)
+
+-- whether bytes begin with the first so many places
+unfoldable pub placesAreRight : ℕ → List Place → List ℕ → Bool
+placesAreRight zero places bytes = true
+placesAreRight (suc n) places bytes = placesAreRight n places bytes && placeIsRight (getD places n noPlace) (drop (n * 32) bytes)
 
 -- whether a point's knots are those that bytes begin with: across, then upwards
 abbrev pub rowIsRight : PointKnots → List ℕ → Bool
@@ -177,15 +181,15 @@ rowsAreRight (suc n) listed knots bytes =
 abbrev pub keptAreRight : Tmesh → List ℕ → Bool
 keptAreRight map bytes = cond (map .kept) (rowsAreRight (map .mesh .made) (map .mesh .listed) (map .knots) bytes) true
 
--- how many bytes a map takes: 81 for each point made, two, and where knots are kept 80 for each point listed
+-- how many bytes a map takes: 89 for each point made, two, and where knots are kept 80 for each point listed
 abbrev pub mapBytes : List Bool → Bool → ℕ → ℕ
-mapBytes listed kept made = cond kept (made * 81 + 2 + countBelow made (listedIn listed) * 80) (made * 81 + 2)
+mapBytes listed kept made = cond kept (made * 89 + 2 + countBelow made (listedIn listed) * 80) (made * 89 + 2)
 
--- whether a map is what bytes are: so many, and in them its shape, the positions of its points, and the knots kept; no map has more than 128 points
+-- whether a map is what bytes are: so many, and in them its shape, the places of its points, and the knots kept; no map has more than 128 points
 abbrev pub mapWithRoom : Tmesh → List ℕ → Bool
 mapWithRoom map bytes =
     (eqb (length bytes) (mapBytes (map .mesh .listed) (map .kept) (map .mesh .made)) && shapeIsRight (meshStore (map .mesh)) (map .mesh .listed) (map .kept) bytes)
-    && (positionsAreRight (map .mesh .made) (map .mesh .positions) (drop (map .mesh .made * 57 + 2) bytes) && keptAreRight map (drop (map .mesh .made * 81 + 2) bytes))
+    && (placesAreRight (map .mesh .made) (map .mesh .places) (drop (map .mesh .made * 57 + 2) bytes) && keptAreRight map (drop (map .mesh .made * 89 + 2) bytes))
 
 unfoldable pub mapIsRight : Tmesh → List ℕ → Bool
 mapIsRight map bytes = cond (ltb 128 (map .mesh .made)) false (mapWithRoom map bytes)

@@ -1,4 +1,4 @@
--- One float more, and one flag, entry, position or row more, is held against the bytes that follow those before it. A map that is too long is wrong.
+-- One float more, and one flag, entry, place or row more, is held against the bytes that follow those before it. A map that is too long is wrong.
 use Prim.Native.Nat.{ℕ, _+_, _*_, _<_, _≤_}
 use mathlib.Core.Bool.{Bool, true, false, cond, _&&_}
 use mathlib.Core.List.{List}
@@ -12,12 +12,11 @@ use Rattle.openings.specs.declared.list.Openings.{Openings}
 use Rattle.ray.specs.declared.knots.PointKnots.{PointKnots}
 use Rattle.stored_calls.specs.Points.{hasBits}
 use Rattle.grid_index.specs.Index.{noKnots}
-use Rattle.surface.specs.Evaluation.{noPosition}
 use Rattle.big_endian.specs.BigEndian.{numberAt}
-use Rattle.t_mesh.specs.Tmesh.{listedIn}
-use Rattle.t_mesh.specs.declared.t_mesh.Position.{Position}
+use Rattle.t_mesh.specs.Tmesh.{listedIn, noPlace}
+use Rattle.t_mesh.specs.declared.t_mesh.Place.{Place}
 use Rattle.t_mesh.specs.declared.t_mesh.Tmesh.{Tmesh}
-use Rattle.map_replay.specs.Answers.{firstAreRight, entryIsRight, entriesAreRight, flagIsAt, listingIsRight, positionIsRight, positionsAreRight, rowIsRight, rowsAreRight, mapWithRoom, mapIsRight}
+use Rattle.map_replay.specs.Answers.{firstAreRight, entryIsRight, entriesAreRight, flagIsAt, listingIsRight, placeIsRight, placesAreRight, rowIsRight, rowsAreRight, mapWithRoom, mapIsRight}
 
 -- no floats are the ones stored
 pub floats-none : (floats : List Float) (bytes : List ℕ) → firstAreRight 0 floats bytes ≡ true
@@ -52,16 +51,16 @@ pub entries-more :
 unfolding entriesAreRight
 entries-more i openings bytes = ap (λ (n : ℕ). entriesAreRight n openings bytes) (add-one i)
 
--- no positions are the ones stored
-pub positions-none : (positions : List Position) (bytes : List ℕ) → positionsAreRight 0 positions bytes ≡ true
-unfolding positionsAreRight
-positions-none positions bytes = refl
+-- no places are the ones stored
+pub places-none : (places : List Place) (bytes : List ℕ) → placesAreRight 0 places bytes ≡ true
+unfolding placesAreRight
+places-none places bytes = refl
 
-pub positions-more :
-    (n : ℕ) (positions : List Position) (bytes : List ℕ) →
-    positionsAreRight (n + 1) positions bytes ≡ (positionsAreRight n positions bytes && positionIsRight (getD positions n noPosition) (drop (n * 24) bytes))
-unfolding positionsAreRight
-positions-more n positions bytes = rw add-one refl
+pub places-more :
+    (n : ℕ) (places : List Place) (bytes : List ℕ) →
+    placesAreRight (n + 1) places bytes ≡ (placesAreRight n places bytes && placeIsRight (getD places n noPlace) (drop (n * 32) bytes))
+unfolding placesAreRight
+places-more n places bytes = rw add-one refl
 
 -- no rows are the ones stored
 pub rows-none : (listed : List Bool) (knots : List PointKnots) (bytes : List ℕ) → rowsAreRight 0 listed knots bytes ≡ true

@@ -4,8 +4,8 @@ ghost use mathlib.Core.Bool.{true, cond};
 ghost use Prim.Native.Nat.{_≤_};
 ghost use Rattle.counting.specs.Counting.{countBelow};
 ghost use Rattle.t_mesh.specs.Tmesh.{listedIn};
-ghost use Rattle.map_replay.specs.Answers.{countsAreRight, insertionJudged, floatsAreRight, outcomeIsRight, bytesTaken, rayJudged, knotsJudged, valueIsRight, evaluationJudged, generationJudged, cellIsRight, cellJudged, countsJudged};
-ghost use Rattle.map_replay.specs.Answers.{entryByte, entriesAreRight, openingsJudged, flagIsAt, listingIsRight, positionIsRight, positionsAreRight, rowIsRight, rowsAreRight, shapeIsRight, keptAreRight, mapBytes, mapIsRight};
+ghost use Rattle.map_replay.specs.Answers.{countsAreRight, insertionJudged, floatsAreRight, outcomeIsRight, bytesTaken, rayJudged, knotsJudged, valueIsRight, evaluationJudged, outcomeJudged, cellIsRight, cellJudged, countsJudged};
+ghost use Rattle.map_replay.specs.Answers.{entryByte, entriesAreRight, openingsJudged, flagIsAt, listingIsRight, positionIsRight, placeIsRight, placesAreRight, rowIsRight, rowsAreRight, shapeIsRight, keptAreRight, mapBytes, mapIsRight};
 use big_endian::after;
 use big_endian::byte_at;
 use big_endian::number_at;
@@ -25,6 +25,7 @@ use stored_calls::points::float_is_at;
 use stored_calls::points::store_is_right;
 use surface::evaluation::Evaluation;
 use surface::evaluation::EvaluationAnswer;
+use t_mesh::t_mesh::Place;
 use t_mesh::t_mesh::Position;
 use t_mesh::t_mesh::Tmesh;
 use t_mesh::t_mesh::is_listed;
@@ -35,7 +36,8 @@ const CAPACITY: u8 = 128;
 // How many openings a list has room for.
 const OPENINGS_ROOM: usize = 512;
 
-const POSITION_BYTES: usize = 24;
+// A place is a position and a pull.
+const PLACE_BYTES: usize = 32;
 
 // A row is five knots across and five upwards.
 const ROW_BYTES: usize = 80;
@@ -158,14 +160,14 @@ pub fn judge_evaluation(answer: EvaluationAnswer, call: &[u8]) -> Judged
     }
 }
 
-// The knots of all listed points: the number.
-pub fn judge_generation(outcome: Outcome, call: &[u8]) -> Judged
-    ensures { λ r. ⌜ r ≡ generationJudged outcome (now (call .entry)) ⌝ }
+// A call that answers a number alone, stored at a place: the knots of all listed points, or the setting of a pull.
+pub fn judge_outcome(outcome: Outcome, place: u8, call: &[u8]) -> Judged
+    ensures { λ r. ⌜ r ≡ outcomeJudged outcome place (now (call .entry)) ⌝ }
 {
-    Judged {
-        right: outcome.number() == byte_at(call, 1),
-        bytes: 2,
-    }
+    let at = wide(place);
+    let right = outcome.number() == byte_at(call, at);
+    let bytes = at + 1;
+    Judged { right, bytes }
 }
 
 // Whether both words of a cell and their count are those that the bytes begin with.
@@ -290,19 +292,25 @@ fn position_is_right(position: Position, bytes: &[u8]) -> bool
     both(x, both(y, float_is_at(position.z, bytes, 16)))
 }
 
-// Whether the bytes begin with the position of each point made.
-fn positions_are_right(positions: [Position; 128], made: u8, bytes: &[u8]) -> bool
+// Whether a place is the one that the bytes begin with: its position, then its pull.
+fn place_is_right(place: Place, bytes: &[u8]) -> bool
+    ensures { λ r. ⌜ r ≡ placeIsRight place (now (bytes .entry)) ⌝ }
+{
+    let position = place.position;
+    let placed = position_is_right(position, bytes);
+    both(placed, float_is_at(place.pull, bytes, 24))
+}
+
+// Whether the bytes begin with the place of each point made.
+fn places_are_right(places: [Place; 128], made: u8, bytes: &[u8]) -> bool
     requires { ⌜ made ≤ 128 ⌝ }
-    ensures { λ r. ⌜ r ≡ positionsAreRight made positions (now (bytes .entry)) ⌝ }
+    ensures { λ r. ⌜ r ≡ placesAreRight made places (now (bytes .entry)) ⌝ }
 {
     let mut right = true;
     let mut n: usize = 0;
     while n < wide(made) {
-        let position = positions[n];
-        right = both(
-            right,
-            position_is_right(position, after(bytes, n * POSITION_BYTES)),
-        );
+        let place = places[n];
+        right = both(right, place_is_right(place, after(bytes, n * PLACE_BYTES)));
         n += 1;
     }
     right
@@ -389,14 +397,14 @@ fn kept_are_right(map: Tmesh, bytes: &[u8]) -> bool
 fn map_bytes(listed: [bool; 128], kept: bool, made: u8) -> usize
     ensures { λ r. ⌜ r ≡ mapBytes listed kept made ⌝ }
 {
-    let bytes = wide(made) * 81 + 2;
+    let bytes = wide(made) * 89 + 2;
     if kept {
         return bytes + listed_below(listed, made) * ROW_BYTES;
     }
     bytes
 }
 
-// Whether a map is what the bytes are, and nothing stands behind it: its shape, the positions of its points, and the knots kept.
+// Whether a map is what the bytes are, and nothing stands behind it: its shape, the places of its points, and the knots kept.
 pub fn map_is_right(map: Tmesh, bytes: &[u8]) -> bool
     ensures { λ r. ⌜ r ≡ mapIsRight map (now (bytes .entry)) ⌝ }
 {
@@ -405,10 +413,10 @@ pub fn map_is_right(map: Tmesh, bytes: &[u8]) -> bool
         return false;
     }
     let listed = map.mesh.listed;
-    let positions = map.mesh.positions;
+    let places = map.mesh.places;
     let whole = bytes.len() == map_bytes(listed, map.kept, made);
     let shape = shape_is_right(store_of(map.mesh), listed, map.kept, bytes);
-    let placed = positions_are_right(positions, made, after(bytes, wide(made) * 57 + 2));
-    let kept = kept_are_right(map, after(bytes, wide(made) * 81 + 2));
+    let placed = places_are_right(places, made, after(bytes, wide(made) * 57 + 2));
+    let kept = kept_are_right(map, after(bytes, wide(made) * 89 + 2));
     both(both(whole, shape), both(placed, kept))
 }

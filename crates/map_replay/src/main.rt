@@ -8,10 +8,10 @@ use crate::answers::Judged;
 use crate::answers::judge_cell;
 use crate::answers::judge_counts;
 use crate::answers::judge_evaluation;
-use crate::answers::judge_generation;
 use crate::answers::judge_insertion;
 use crate::answers::judge_knots;
 use crate::answers::judge_openings;
+use crate::answers::judge_outcome;
 use crate::answers::judge_ray;
 use crate::answers::map_is_right;
 use big_endian::after;
@@ -32,6 +32,7 @@ use lent_surface::lent_value;
 use map_insertion::add_control_point;
 use map_insertion::add_or_withdraw;
 use openings::openings::openings;
+use pull::set_pull;
 use ray::knots::point_knot_vectors;
 use ray::ray::cast_ray;
 use replay::Outcome;
@@ -75,6 +76,8 @@ const SET_POINT: u8 = 7;
 const CELL: u8 = 8;
 
 const COUNTS: u8 = 9;
+
+const PULL: u8 = 11;
 
 // A call made: the map after it, whether it answered what is stored, and how many bytes it takes.
 struct MapReplayed {
@@ -166,14 +169,14 @@ fn replay_counts(call: &[u8], map: Tmesh) -> MapReplayed {
 // The arrays start with every number listed, so that what lending leaves in them is seen.
 fn replay_lent(call: &[u8], map: Tmesh) -> MapReplayed {
     let row = [1.0; 5];
-    let place = [1.0; 3];
+    let place = [1.0; 4];
     let mut across = [row; 128];
     let mut upwards = [row; 128];
-    let mut positions = [place; 128];
+    let mut places = [place; 128];
     let mut listed = [true; 128];
-    let lent = lend(&mut across, &mut upwards, &mut positions, &mut listed, map);
+    let lent = lend(&mut across, &mut upwards, &mut places, &mut listed, map);
     let s = float_at(call, 1);
-    let value = lent_value(&across, &upwards, &positions, &listed, s, float_at(call, 9));
+    let value = lent_value(&across, &upwards, &places, &listed, s, float_at(call, 9));
     let outcome = lent.outcome;
     let judged = judge_evaluation(answer_by(outcome, value), call);
     let next = lent.map;
@@ -187,8 +190,20 @@ fn replay_lent(call: &[u8], map: Tmesh) -> MapReplayed {
 fn replay_generation(call: &[u8], map: Tmesh) -> MapReplayed {
     let generated = generate_knot_vectors(map);
     let outcome = generated.outcome;
-    let judged = judge_generation(outcome, call);
+    let judged = judge_outcome(outcome, 1, call);
     let next = generated.map;
+    MapReplayed {
+        map: next,
+        right: judged.right,
+        bytes: judged.bytes,
+    }
+}
+
+fn replay_pull(call: &[u8], map: Tmesh) -> MapReplayed {
+    let pulled = set_pull(map, byte_at(call, 1), float_at(call, 2));
+    let outcome = pulled.outcome;
+    let judged = judge_outcome(outcome, 10, call);
+    let next = pulled.map;
     MapReplayed {
         map: next,
         right: judged.right,
@@ -241,7 +256,7 @@ fn replay_direct(kind: u8, call: &[u8], map: Tmesh) -> MapReplayed {
     }
 }
 
-// A call that asks for a value, a cell or the counts, or builds the knots of all listed points.
+// A call that asks for a value, a cell or the counts, sets a pull, or builds the knots of all listed points.
 fn replay_value(kind: u8, call: &[u8], map: Tmesh) -> MapReplayed {
     if kind == SET_POINT {
         return replay_set_point(call, map);
@@ -251,6 +266,9 @@ fn replay_value(kind: u8, call: &[u8], map: Tmesh) -> MapReplayed {
     }
     if kind == COUNTS {
         return replay_counts(call, map);
+    }
+    if kind == PULL {
+        return replay_pull(call, map);
     }
     if kind == GENERATION {
         return replay_generation(call, map);

@@ -30,8 +30,8 @@ add-after c = search needs
 after-requires : tie.Need-after-requires
 after-requires c κs = search needs
 
-positions-are-right-requires : tie.Need-positions-are-right-requires
-positions-are-right-requires c κs = search needs
+places-are-right-requires : tie.Need-places-are-right-requires
+places-are-right-requires c κs = search needs
 
 wide-requires-2 : tie.Need-wide-requires-2
 wide-requires-2 c κs = search needs
@@ -62,7 +62,7 @@ returns-2 c =
     let k = c .before .before .before in
     let p = k .before .before .before in
     let s = p .before .before .before in
-    rw (c .both3 .ensures, c .before .both2 .ensures, c .before .before .both .ensures, k .kept-are-right .ensures, k .before .after2 .ensures, k .before .before .wide2 .ensures, p .positions-are-right .ensures, p .before .after .ensures, p .before .before .wide .ensures, s .shape-is-right .ensures, s .before .store-of .ensures, s .before .before .map-bytes .ensures) (sym (map-with-room _ _ (omega arith)))
+    rw (c .both3 .ensures, c .before .both2 .ensures, c .before .before .both .ensures, k .kept-are-right .ensures, k .before .after2 .ensures, k .before .before .wide2 .ensures, p .places-are-right .ensures, p .before .after .ensures, p .before .before .wide .ensures, s .shape-is-right .ensures, s .before .store-of .ensures, s .before .before .map-bytes .ensures) (sym (map-with-room _ _ (omega arith)))
 
 pub map-is-right-spec : {M : Type 1} → statement M
 map-is-right-spec =
@@ -76,7 +76,7 @@ map-is-right-spec =
     mul-after
     add-after
     after-requires
-    positions-are-right-requires
+    places-are-right-requires
     wide-requires-2
     mul-after-2
     add-after-2
