@@ -39,6 +39,7 @@ unsafe extern "C" {
     fn bench_cell_points(edits: *const u8, length: usize, repeats: u64) -> u64;
     fn bench_counts(edits: *const u8, length: usize, repeats: u64) -> u64;
     fn bench_openings(edits: *const u8, length: usize, repeats: u64) -> u64;
+    fn bench_settings(edits: *const u8, length: usize, repeats: u64) -> u64;
     fn bench_reports(file: *const u8, length: usize, repeats: u64) -> u64;
     fn bench_evaluations(edits: *const u8, length: usize, repeats: u64) -> u64;
     fn bench_lent_evaluations(edits: *const u8, length: usize, repeats: u64) -> u64;
@@ -72,6 +73,11 @@ fn bytes(edits: &[Edit]) -> Vec<u8> {
         }
     }
     out
+}
+
+/// The same with a pull behind them, which every point then has.
+fn with_pull(edits: &[u8], pull: f64) -> Vec<u8> {
+    [edits, &pull.to_bits().to_be_bytes()].concat()
 }
 
 /// The map file of a version with these edits.
@@ -227,10 +233,22 @@ fn line_withdrawing(name: &str, turns: u64, edits: &[Edit]) {
     show(&format!("file of {name}, version 2"), [time, theirs, plain], &beside);
 }
 
+/// A line of a time of this side alone, with what else there is to say.
+fn show_alone(name: &str, ours: f64, beside: &str) {
+    println!("{name:56} {ours:10.1} {:>10} {:>10} {:>8} {:>8} {beside}", "-", "-", "-", "-");
+}
+
 /// A line of work that the Rust has not, with what its time says beside another of this side.
 fn line_alone(name: &str, turns: u64, file: &[u8], host: Host, beside: impl Fn(f64) -> String) {
     let [ours] = in_turns(turns, [&ours(host, file)]);
-    println!("{name:56} {ours:10.1} {:>10} {:>10} {:>8} {:>8} {}", "-", "-", "-", "-", beside(ours));
+    show_alone(name, ours, &beside(ours));
+}
+
+/// A line of evaluations where every point has another pull than 1.0, beside the same without, which take their turns too.
+fn line_pulled(name: &str, file: &[u8], host: Host) {
+    let pulled = with_pull(file, 3.0);
+    let [time, plain] = in_turns(20000, [&ours(host, &pulled), &ours(host, file)]);
+    show_alone(name, time, &format!("{:.2} of the same without pulls, which takes {plain:.1}", time / plain));
 }
 
 fn main() {
@@ -255,7 +273,11 @@ fn main() {
         line_alone(&format!("points of a cell with index kept, {points} points"), 20000, &file, bench_cell_points, of_evaluation);
         line_alone(&format!("counts, {points} points"), 20000, &file, bench_counts, of_evaluation);
         line_alone(&format!("openings listed, {points} points"), 20000, &file, bench_openings, of_evaluation);
-        line(&format!("evaluation with knots kept, over lent knots, {points} points"), 1.0, 20000, &edits, &file, bench_lent_evaluations, locks::evaluations, cells::evaluations);
+        line_alone(&format!("pull set, map by value, {points} points"), 20000, &file, bench_settings, of_evaluation);
+        let name = format!("evaluation with knots kept, over lent knots, {points} points");
+        line(&name, 1.0, 20000, &edits, &file, bench_lent_evaluations, locks::evaluations, cells::evaluations);
+        line_pulled(&format!("evaluation with knots kept, pulls set, {points} points"), &file, bench_evaluations);
+        line_pulled(&format!("evaluation over lent knots, pulls set, {points} points"), &file, bench_lent_evaluations);
         line(&format!("ray of 2, over lent sides, {points} points"), 1.0, 100000, &edits, &file, bench_rays, locks::rays, cells::rays);
     }
     for moves in [1, 100] {

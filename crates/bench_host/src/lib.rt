@@ -1,5 +1,5 @@
 // What bench/ times. Each function does one piece of work so many times on the map of a list of edits, and answers a number that
-// depends on every turn. An edit is 34 bytes: point, direction, ratio, position, as in a map file.
+// depends on every turn. An edit is 34 bytes: point, direction, ratio, position, as in a map file. Behind the edits 8 bytes may stand: a pull, which every point of the map has in an evaluation.
 use basis::basis_function;
 use big_endian::after;
 use big_endian::byte_at;
@@ -23,15 +23,19 @@ use navigation::walk::Walk;
 use navigation::walk::navigate;
 use openings::list::Openings;
 use openings::openings::openings;
+use pull::set_pull;
 use ray::ray::cast;
 use store::walk::navigate_until_con;
 use surface::evaluation::EvaluationAnswer;
 use t_mesh::t_mesh::Mesh;
+use t_mesh::t_mesh::Place;
 use t_mesh::t_mesh::Position;
 use t_mesh::t_mesh::Tmesh;
 use t_mesh::t_mesh::store_of;
 
 const EDIT_BYTES: usize = 34;
+
+const PULL_BYTES: usize = 8;
 
 // A total that no bench comes to, which the compiler cannot know.
 const NEVER: u64 = 0xffff_ffff;
@@ -117,6 +121,30 @@ fn map_of(edits: &[u8]) -> Tmesh {
         let edit = after(edits, edits.len() - left);
         map = edited(map, edit);
         left -= EDIT_BYTES;
+    }
+    map
+}
+
+// The pull behind the edits; 1.0 where none stands there.
+fn pull_behind(edits: &[u8]) -> f64 {
+    if edits.len() < PULL_BYTES {
+        return 1.0;
+    }
+    if edits.len() % EDIT_BYTES != PULL_BYTES {
+        return 1.0;
+    }
+    float_at(edits, edits.len() - PULL_BYTES)
+}
+
+// The map after all edits, every point with the pull behind them.
+fn pulled_map_of(edits: &[u8]) -> Tmesh {
+    let pull = pull_behind(edits);
+    let mut map = map_of(edits);
+    let mut n: u8 = 0;
+    while n < 128 {
+        let pulled = set_pull(map, n, pull);
+        map = pulled.map;
+        n += 1;
     }
     map
 }
@@ -270,6 +298,31 @@ pub extern "C" fn bench_openings(edits: &[u8], repeats: u64) -> u64 {
     total
 }
 
+// The pull of corner 0.
+fn corner_pull(places: [Place; 128]) -> f64 {
+    let corner = places[0];
+    corner.pull
+}
+
+// The pulls of the corners set in turn: the bits of the last one of corner 0, with the sum of the answer numbers.
+#[no_mangle]
+pub extern "C" fn bench_settings(edits: &[u8], repeats: u64) -> u64 {
+    let mut map = map_of(edits);
+    let mut pull = 1.0;
+    let mut total: u64 = 0;
+    let mut turn: u64 = 0;
+    while turn < repeats {
+        pull = pull * 0.5 + 0.25;
+        let pulled = set_pull(map, (turn % 4) as u8, pull);
+        let outcome = pulled.outcome;
+        map = pulled.map;
+        total = counted(total, outcome.number());
+        turn += 1;
+    }
+    let places = map.mesh.places;
+    counted_wide(total, float64::to_bits(corner_pull(places)))
+}
+
 fn height(answer: EvaluationAnswer) -> f64 {
     match answer {
         EvaluationAnswer::Is(value) => value.z,
@@ -280,7 +333,7 @@ fn height(answer: EvaluationAnswer) -> f64 {
 // Evaluations with knots kept: the bits of the sum of their heights.
 #[no_mangle]
 pub extern "C" fn bench_evaluations(edits: &[u8], repeats: u64) -> u64 {
-    let mut map = map_of(edits);
+    let mut map = pulled_map_of(edits);
     let mut s = 0.25;
     let mut sum = 0.0;
     let mut turn: u64 = 0;
@@ -299,7 +352,7 @@ pub extern "C" fn bench_evaluations(edits: &[u8], repeats: u64) -> u64 {
 // The same over the map lent once.
 #[no_mangle]
 pub extern "C" fn bench_lent_evaluations(edits: &[u8], repeats: u64) -> u64 {
-    let map = map_of(edits);
+    let map = pulled_map_of(edits);
     let knots = [0.0; 5];
     let place = [0.0; 4];
     let mut across = [knots; 128];

@@ -7,7 +7,7 @@ use Rattle.bench_host.proofs.bench_evaluations.Tie as tie
 use Rattle.bench_host.proofs.bench_evaluations.Reads as reads
 use Rattle.bench_host.proofs.bench_evaluations.Lts as lts
 use Rattle.bench_host.proofs.height.Reads as height-reads
-use Rattle.bench_host.proofs.map_of.Reads as map-of-reads
+use Rattle.bench_host.proofs.pulled_map_of.Reads as pulled-map-of-reads
 use Rattle.evaluation.proofs.evaluation.subs.Reads as subs-reads
 use Rattle.float64.proofs.to_bits.Reads as to-bits-reads
 
@@ -17,8 +17,8 @@ Inv-loop edits repeats map₀ s₀ sum₀ turn₀ map s sum turn = turn ≤ repe
 abbrev μ-loop : tie.MeasureT-loop
 μ-loop edits repeats map₀ s₀ sum₀ turn₀ map s sum turn = repeats - turn
 
-map-of-requires : tie.Need-map-of-requires Inv-loop μ-loop
-map-of-requires c κs = search needs
+pulled-map-of-requires : tie.Need-pulled-map-of-requires Inv-loop μ-loop
+pulled-map-of-requires c κs = search needs
 
 loop-holds : tie.Need-loop-holds Inv-loop μ-loop
 loop-holds c = search needs
@@ -50,7 +50,7 @@ bench-evaluations-spec =
     (tie.spec
     Inv-loop
     μ-loop
-    map-of-requires
+    pulled-map-of-requires
     loop-holds
     subs-requires
     height-requires

@@ -11,8 +11,8 @@ Inv-loop edits repeats across upwards places listed s₀ sum₀ turn₀ s sum tu
 abbrev μ-loop : tie.MeasureT-loop
 μ-loop edits repeats across upwards places listed s₀ sum₀ turn₀ s sum turn = repeats - turn
 
-map-of-requires : tie.Need-map-of-requires Inv-loop μ-loop
-map-of-requires c κs = search needs
+pulled-map-of-requires : tie.Need-pulled-map-of-requires Inv-loop μ-loop
+pulled-map-of-requires c κs = search needs
 
 lend-requires : tie.Need-lend-requires Inv-loop μ-loop
 lend-requires c κs = search needs
@@ -44,7 +44,7 @@ bench-lent-evaluations-spec =
     (tie.spec
     Inv-loop
     μ-loop
-    map-of-requires
+    pulled-map-of-requires
     lend-requires
     loop-holds
     lent-value-requires
