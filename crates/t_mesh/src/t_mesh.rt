@@ -20,20 +20,20 @@ pub struct Place {
     pub pull: f64,
 }
 
-// The points and how many are made, as in a store; their places; which of them are listed.
+// The points and how many are made, as in a store; their places; which of them are listed. The arrays stand first, so that a map is copied in whole words.
 pub struct Mesh {
     pub points: [TmeshControlPoint; 128],
-    pub made: u8,
     pub places: [Place; 128],
     pub listed: [bool; 128],
+    pub made: u8,
 }
 
 // A mesh, and whether the knots of its listed points and the index built from them are kept. Where they are not, what stands in their place means nothing.
 pub struct Tmesh {
     pub mesh: Mesh,
-    pub kept: bool,
     pub knots: [PointKnots; 128],
     pub index: Index,
+    pub kept: bool,
 }
 
 // The place of a point when it is made.

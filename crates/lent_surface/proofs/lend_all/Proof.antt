@@ -72,8 +72,8 @@ returns c =
     let k = l .loop in
     let h : k .n ≡ 128 = omega arith in
     all-lent own (k .n) (k .across) (k .upwards) (k .places) h
-    (sym (length-map (own .knots) _) ∙ g .1 .1 .1 .1 .0 .1 .0 .1)
-    (sym (length-map (own .mesh .places) _) ∙ g .1 .1 .0 .1 .1 .1 .1 .0 .1 .0 .1)
+    (sym (length-map (own .knots) _) ∙ g .1 .1 .1 .0 .1 .0 .1)
+    (sym (length-map (own .mesh .places) _) ∙ g .1 .1 .0 .1 .1 .1 .0 .1 .0 .1)
     (k .inv .1 .0) (k .inv .1 .1 .0) (k .inv .1 .1 .1)
 
 pub lend-all-spec : {M : Type 1} → statement M
