@@ -273,7 +273,7 @@ fn main() {
         line_alone(&format!("points of a cell with index kept, {points} points"), 20000, &file, bench_cell_points, of_evaluation);
         line_alone(&format!("counts, {points} points"), 20000, &file, bench_counts, of_evaluation);
         line_alone(&format!("openings listed, {points} points"), 20000, &file, bench_openings, of_evaluation);
-        line_alone(&format!("pull set, map by value, {points} points"), 20000, &file, bench_settings, of_evaluation);
+        line_alone(&format!("set_pull, map by value, {points} points"), 20000, &file, bench_settings, of_evaluation);
         let name = format!("evaluation with knots kept, over lent knots, {points} points");
         line(&name, 1.0, 20000, &edits, &file, bench_lent_evaluations, locks::evaluations, cells::evaluations);
         line_pulled(&format!("evaluation with knots kept, pulls set, {points} points"), &file, bench_evaluations);

@@ -304,16 +304,15 @@ fn corner_pull(places: [Place; 128]) -> f64 {
     corner.pull
 }
 
-// The pulls of the corners set in turn: the bits of the last one of corner 0, with the sum of the answer numbers.
+// The pull of corner 0 set, each time by the one before: the bits of the last, with the sum of the answer numbers.
 #[no_mangle]
 pub extern "C" fn bench_settings(edits: &[u8], repeats: u64) -> u64 {
     let mut map = map_of(edits);
-    let mut pull = 1.0;
     let mut total: u64 = 0;
     let mut turn: u64 = 0;
     while turn < repeats {
-        pull = pull * 0.5 + 0.25;
-        let pulled = set_pull(map, (turn % 4) as u8, pull);
+        let before = map.mesh.places;
+        let pulled = set_pull(map, 0, corner_pull(before) * 0.5 + 0.25);
         let outcome = pulled.outcome;
         map = pulled.map;
         total = counted(total, outcome.number());

@@ -2,7 +2,8 @@
 -- premises on the first axis and whose evaluation is exactly 1.0 there; and one that meets them on every axis, in which a torn point
 -- at 7.0 stands in the mesh, linked and not listed, and whose evaluation has a positive and finite weight and lies in 0 to 1.
 -- Torn insertions are withdrawn where the call says so: the same insertion is then answered the same and leaves the map as it was, whether it keeps knots or not.
--- A corner's pull of 3.0 draws an evaluation towards the corner; settings of pulls are refused 11 and 17, and then change nothing; with every pull 0.0 a set-point is refused 15.
+-- A corner's pull of 3.0 draws an evaluation towards the corner; settings of pulls are refused 11 and 17, and then change nothing; −0.0 is set, and a torn point's
+-- pull; with every pull 0.0 a set-point is refused 15.
 use Prim.Native.Nat.{ℕ}
 use mathlib.Core.Path.{_≡_}
 use mathlib.Core.Bool.{true, false}
@@ -172,6 +173,12 @@ PulledRun =
     ≡ record { call = evaluation half half; answer = evaluated (Is between) }
     ∷ (record { call = pulling 2 three; answer = pulled Set } ∷ (record { call = evaluation half half; answer = evaluated (Is drawn) } ∷ []))
 
+-- the premises hold, and the evaluation lies where the pull draws it, with a positive and finite weight
+pub record PullMovesGate : Type 0 where
+  pub premises : (axis : Axis) → Premises millionth oneLiteral bottomLeft bottomRight topRight topLeft axis pulledCalls
+  pub run : PulledRun
+  pub weighty : Weighty drawn
+
 -- a setting that is refused by a number and leaves the map as it was
 abbrev pub TurnedAway : ℕ → ℕ → Float → Type 0
 TurnedAway number n pull = (outcomeNumber (setPull plate n pull .outcome) ≡ number) × (setPull plate n pull .map ≡ plate)
@@ -188,7 +195,6 @@ abbrev pub weightlessPlate : Tmesh
 weightlessPlate = letGo (letGo (letGo (letGo plate 0) 1) 2) 3
 
 pub record PullsAnswered : Type 0 where
-  pub run : PulledRun
   -- a number never made: 11, also where the pull is a NaN
   pub unmade : TurnedAway 11 4 three
   pub unmade-first : TurnedAway 11 4 nan
@@ -204,4 +210,4 @@ pub record PullsAnswered : Type 0 where
 
 -- all of these
 abbrev pub NotEmpty : Type 0
-NotEmpty = FullStrokeTouched × (TornPointPassedOver × (WithdrawnLeavesMap × PullsAnswered))
+NotEmpty = FullStrokeTouched × (TornPointPassedOver × (WithdrawnLeavesMap × (PullMovesGate × PullsAnswered)))

@@ -1,4 +1,5 @@
 -- What NotEmpty says, by computing: every call runs on closed values.
+use mathlib.Core.List.{List}
 use mathlib.Core.Path.{refl, sym, subst}
 use lib.Ieee.{Float, ofBits, ofFields, add, sub, mul, div, sum, round, units, odd, size, span, climb, neg, le, lt, eq}
 use Rattle.float64.specs.Literals.{zeroLiteral, oneLiteral}
@@ -21,9 +22,9 @@ use Rattle.pull.specs.Pull.{setPull}
 use Rattle.knot_vectors.specs.Knots.{rowsFrom, allKnots, generateKnotVectors}
 use Rattle.surface.specs.Evaluation.{onAxis, sumFrom, valueOf, withKnots, subsOf, setPoint}
 use Rattle.calls.specs.Calls.{Call, insertion, evaluation, question, pulling, Answer, inserted, evaluated, questioned, pulled, Event, runOf}
-use Rattle.calls.specs.FullStroke.{InUnit, Each, DoneInUnit}
+use Rattle.calls.specs.FullStroke.{InUnit, Each, DoneInUnit, Premises}
 use Rattle.calls.specs.ExampleValues.{positionAt}
-use Rattle.calls.specs.NotEmpty.{FullRun, FullStrokeTouched, inside, TornRun, TornStands, TornPointPassedOver, WithdrawnLeavesMap, PullsAnswered, NotEmpty}
+use Rattle.calls.specs.NotEmpty.{FullRun, FullStrokeTouched, inside, bottomLeft, bottomRight, topRight, topLeft, plate, TornRun, TornStands, TornPointPassedOver, WithdrawnLeavesMap, pulledCalls, PulledRun, PullMovesGate, PullsAnswered, NotEmpty}
 
 -- ---- the premises on done insertions, of single events
 abbrev PlacedInUnit : Axis → Call → Type 0
@@ -55,7 +56,7 @@ unfolding ofBits ofFields le lt eq
 one-in-unit = (tt, tt)
 
 -- ---- the calls
-computed : FullRun × (TornRun × (TornStands × (WithdrawnLeavesMap × PullsAnswered)))
+computed : FullRun × (TornRun × (TornStands × (WithdrawnLeavesMap × (PulledRun × PullsAnswered))))
 unfolding runOf newTmesh addControlPoint insertPoint inUnit checked checkedIntervals placed newSide firstSide withFirst secondSide sided
     connectPoints connectable isMade sidesOf millionth small findInferredConnection seekFrom judgeAt walkOf onward subsOf withKnots setPull setPoint
     generateKnotVectors allKnots rowsFrom pointKnotVectors knotsAt rayOf rayFrom approachOf approachIn valueOf sumFrom formula sumOfTerms
@@ -64,7 +65,6 @@ computed =
     let withdrawn : WithdrawnLeavesMap = record { fresh = (refl, refl); keeps = refl; with-knots = (refl, refl) } in
     let pulls : PullsAnswered =
     record {
-      run = refl;
       unmade = (refl, refl);
       unmade-first = (refl, refl);
       negative = (refl, refl);
@@ -74,7 +74,7 @@ computed =
       torn = (refl, refl);
       weightless = refl;
     } in
-    (refl, (refl, ((refl, (refl, refl)), (withdrawn, pulls))))
+    (refl, (refl, ((refl, (refl, refl)), (withdrawn, (refl, pulls)))))
 
 full-stroke-touched : FullStrokeTouched
 unfolding ofBits ofFields lt
@@ -103,24 +103,40 @@ inside-in-unit X = (tt, tt)
 inside-in-unit Y = (tt, tt)
 inside-in-unit Z = (tt, tt)
 
+-- the premises on the plate, of calls whose insertions done are in 0 to 1
+plate-premises : (axis : Axis) (calls : List Call) → Each (DoneInUnit axis) (runOf millionth plate calls)
+    → Premises millionth oneLiteral bottomLeft bottomRight topRight topLeft axis calls
+plate-premises axis calls done =
+    record {
+      border = one-in-unit .0;
+      bottom-left = corner-in-unit axis zeroLiteral zeroLiteral zeroLiteral zero-in-unit zero-in-unit zero-in-unit;
+      bottom-right = corner-in-unit axis oneLiteral zeroLiteral zeroLiteral one-in-unit zero-in-unit zero-in-unit;
+      top-right = corner-in-unit axis oneLiteral oneLiteral oneLiteral one-in-unit one-in-unit one-in-unit;
+      top-left = corner-in-unit axis zeroLiteral oneLiteral oneLiteral zero-in-unit one-in-unit one-in-unit;
+      done = done;
+    }
+
 torn-point-passed-over : TornPointPassedOver
 unfolding ofBits ofFields lt
 torn-point-passed-over =
     record {
-      premises = λ axis.
-          record {
-            border = one-in-unit .0;
-            bottom-left = corner-in-unit axis zeroLiteral zeroLiteral zeroLiteral zero-in-unit zero-in-unit zero-in-unit;
-            bottom-right = corner-in-unit axis oneLiteral zeroLiteral zeroLiteral one-in-unit zero-in-unit zero-in-unit;
-            top-right = corner-in-unit axis oneLiteral oneLiteral oneLiteral one-in-unit one-in-unit one-in-unit;
-            top-left = corner-in-unit axis zeroLiteral oneLiteral oneLiteral zero-in-unit one-in-unit one-in-unit;
-            done = subst (Each (DoneInUnit axis)) (sym (computed .1 .0)) (other-event axis _ tt, (other-event axis _ tt, tt));
-          };
+      premises = λ axis. plate-premises axis _ (subst (Each (DoneInUnit axis)) (sym (computed .1 .0)) (other-event axis _ tt, (other-event axis _ tt, tt)));
       run = computed .1 .0;
       stands = computed .1 .1 .0;
       weighty = (tt, tt);
       in-unit = inside-in-unit;
     }
 
+pull-moves-gate : PullMovesGate
+unfolding ofBits ofFields lt
+pull-moves-gate =
+    record {
+      premises = λ axis.
+          plate-premises axis pulledCalls
+          (subst (Each (DoneInUnit axis)) (sym (computed .1 .1 .1 .1 .0)) (other-event axis _ tt, (other-event axis _ tt, (other-event axis _ tt, tt))));
+      run = computed .1 .1 .1 .1 .0;
+      weighty = (tt, tt);
+    }
+
 pub not-empty : NotEmpty
-not-empty = (full-stroke-touched, (torn-point-passed-over, computed .1 .1 .1))
+not-empty = (full-stroke-touched, (torn-point-passed-over, (computed .1 .1 .1 .0, (pull-moves-gate, computed .1 .1 .1 .1 .1))))

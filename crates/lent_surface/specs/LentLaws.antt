@@ -16,7 +16,7 @@ use Rattle.ray.specs.declared.knots.PointKnots.{PointKnots}
 use Rattle.grid_index.specs.Index.{noKnots}
 use Rattle.surface.specs.Evaluation.{knotsOf, weightBy, weightOf, shareBy, valueOf, withKnots}
 use Rattle.surface.specs.declared.evaluation.Share.{Share}
-use Rattle.t_mesh.specs.Tmesh.{noPlace, placeOf, pullOf}
+use Rattle.t_mesh.specs.Tmesh.{noPlace, placeUnder, pullOf}
 use Rattle.t_mesh.specs.declared.t_mesh.Place.{Place}
 use Rattle.t_mesh.specs.declared.t_mesh.Tmesh.{Tmesh}
 use Rattle.surface.specs.EvaluationLaws.{value-alike, with-knots-told}
@@ -33,7 +33,7 @@ with-each f d list count array e full so-far =
 pub all-lent : (own : Tmesh) (count : ℕ) (across upwards places : List (List Float)) → count ≡ 128 → length (own .knots) ≡ 128 → length (own .mesh .places) ≡ 128
     → StoredTo (λ (n : ℕ). knotsOf own n .s) [] 128 count across
     → StoredTo (λ (n : ℕ). knotsOf own n .t) [] 128 count upwards
-    → StoredTo (λ (n : ℕ). placeRow (placeOf own n)) (placeRow noPlace) 128 count places
+    → StoredTo (λ (n : ℕ). placeRow (placeUnder own n)) (placeRow noPlace) 128 count places
     → lent across upwards places (own .mesh .listed) ≡ lentOf own
 unfolding lentOf
 all-lent own count across upwards places e k p a u q =
@@ -54,12 +54,12 @@ module _ (across upwards places : List (List Float)) (listed : List Bool) (n : �
   held-knots : knotsOf (heldMap across upwards places listed) n ≡ lentKnots across upwards n
   held-knots = values-at (lentKnots across upwards) noKnots 128 0 n h ∙ ap (lentKnots across upwards) (omega arith)
 
-  held-place : placeOf (heldMap across upwards places listed) n ≡ lentPlace places n
+  held-place : placeUnder (heldMap across upwards places listed) n ≡ lentPlace places n
   held-place = values-at (lentPlace places) noPlace 128 0 n h ∙ ap (lentPlace places) (omega arith)
 
   -- a point's share, taken from the arrays
   pub held-share : (s t : Float) (share : Share) → share ≡ shareBy (lentKnots across upwards n) (lentPlace places n) s t
-      → share ≡ shareBy (knotsOf (heldMap across upwards places listed) n) (placeOf (heldMap across upwards places listed) n) s t
+      → share ≡ shareBy (knotsOf (heldMap across upwards places listed) n) (placeUnder (heldMap across upwards places listed) n) s t
   held-share s t share k =
       k
       ∙ ap (λ (own : PointKnots). shareBy own (lentPlace places n) s t) (sym held-knots)
@@ -88,7 +88,7 @@ lent-value own s t =
     place-at (p ∷ places) zero = refl
     place-at (p ∷ places) (suc n) = place-at places n
 
-    same-place : (n : ℕ) → n < 128 → placeOf held n ≡ placeOf own n
+    same-place : (n : ℕ) → n < 128 → placeUnder held n ≡ placeUnder own n
     same-place n h = held-place (lentOf own .across) (lentOf own .upwards) (lentOf own .places) (lentOf own .listed) n h ∙ place-at (own .mesh .places) n
 
 -- ---- what `lend` gives

@@ -91,9 +91,9 @@ unfoldable pub evaluationJudged : EvaluationAnswer → List ℕ → Judged
 evaluationJudged (Is value) call = record { right = eqb (byteAt call 17) 0 && valueIsRight value (drop 18 call); bytes = 50 }
 evaluationJudged (NotEvaluated refusal) call = record { right = eqb (byteAt call 17) (refusalNumber refusal); bytes = 18 }
 
--- a call that answers a number alone held against the one stored at a place: the knots of all listed points, or the setting of a pull
+-- a call that answers a number alone held against the one that stands behind so many bytes: the knots of all listed points, or the setting of a pull
 abbrev pub outcomeJudged : Outcome → ℕ → List ℕ → Judged
-outcomeJudged outcome at call = record { right = eqb (outcomeNumber outcome) (byteAt call at); bytes = at + 1 }
+outcomeJudged outcome behind call = record { right = eqb (outcomeNumber outcome) (byteAt call behind); bytes = behind + 1 }
 
 -- whether both words of a cell and their count are those that bytes begin with
 abbrev pub cellIsRight : Cell → List ℕ → Bool

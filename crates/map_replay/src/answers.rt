@@ -160,11 +160,11 @@ pub fn judge_evaluation(answer: EvaluationAnswer, call: &[u8]) -> Judged
     }
 }
 
-// A call that answers a number alone, stored at a place: the knots of all listed points, or the setting of a pull.
-pub fn judge_outcome(outcome: Outcome, place: u8, call: &[u8]) -> Judged
-    ensures { λ r. ⌜ r ≡ outcomeJudged outcome place (now (call .entry)) ⌝ }
+// A call that answers a number alone, which stands behind so many bytes: the knots of all listed points, or the setting of a pull.
+pub fn judge_outcome(outcome: Outcome, behind: u8, call: &[u8]) -> Judged
+    ensures { λ r. ⌜ r ≡ outcomeJudged outcome behind (now (call .entry)) ⌝ }
 {
-    let at = wide(place);
+    let at = wide(behind);
     let right = outcome.number() == byte_at(call, at);
     let bytes = at + 1;
     Judged { right, bytes }

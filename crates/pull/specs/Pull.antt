@@ -12,7 +12,7 @@ use Rattle.control_point.specs.Told.{Told, tells, unless}
 use Rattle.control_point.specs.declared.refusal.Outcome.{Outcome}
 use Rattle.control_point.specs.declared.refusal.Outcome.the-variants.{Done, Refused}
 use Rattle.control_point.specs.declared.refusal.Refusal.the-variants.{NoPoint, Pull}
-use Rattle.t_mesh.specs.Tmesh.{placeOf}
+use Rattle.t_mesh.specs.Tmesh.{placeUnder}
 use Rattle.t_mesh.specs.declared.t_mesh.Place.{Place}
 use Rattle.t_mesh.specs.declared.t_mesh.Tmesh.{Tmesh}
 use Rattle.pull.specs.declared.Pulled.{Pulled}
@@ -31,7 +31,7 @@ withPull map n pull =
       mesh = record {
         points = map .mesh .points;
         made = map .mesh .made;
-        places = set (map .mesh .places) n (repulled (placeOf map n) pull);
+        places = set (map .mesh .places) n (repulled (placeUnder map n) pull);
         listed = map .mesh .listed;
       };
       kept = map .kept;

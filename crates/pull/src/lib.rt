@@ -42,7 +42,7 @@ fn pull_outcome(made: u8, n: u8, pull: f64) -> Outcome
     Outcome::Done
 }
 
-// The pull of a made point, listed or not; nothing else of the map changes.
+// Sets the pull of a made point, listed or not, and nothing else. Refused, 11 and then 17, the map is as it was.
 pub fn set_pull(mut map: Tmesh, n: u8, pull: f64) -> Pulled
     ensures is { λ r. ⌜ r ≡ setPull map n pull ⌝ }
     ensures told { λ r. ⌜ outcomeTold (r .outcome) ≡ pullTable map n pull ⌝ }

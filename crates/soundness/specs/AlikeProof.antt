@@ -31,7 +31,7 @@ use Rattle.insertion.specs.declared.insertion.InsertAnswer.{InsertAnswer}
 use Rattle.insertion.specs.declared.insertion.InsertAnswer.the-variants.{Done as Added, Torn, Refused as NotAdded}
 use Rattle.insertion.specs.declared.insertion.Inserted.{Inserted}
 use Rattle.t_mesh.specs.Insertion.{afterInsertion, answered, addControlPoint, addedBy, addByRule}
-use Rattle.t_mesh.specs.Tmesh.{unpulled, noPlace, placeOf, pullOf, storeOf, isListed, newTmesh}
+use Rattle.t_mesh.specs.Tmesh.{unpulled, noPlace, placeUnder, pullOf, storeOf, isListed, newTmesh}
 use Rattle.t_mesh.specs.declared.t_mesh.Mesh.{Mesh}
 use Rattle.t_mesh.specs.declared.t_mesh.Place.{Place}
 use Rattle.t_mesh.specs.declared.t_mesh.Position.{Position}
@@ -354,9 +354,9 @@ module _ (one other : Tmesh) (sound : SoundMap one) (sound′ : SoundMap other) 
       where
         repulled-too : pullsOf (withPull one n pull) ≡ pullsOf (withPull other n pull)
         repulled-too =
-            pulls-with (one .mesh .places) n (repulled (placeOf one n) pull)
+            pulls-with (one .mesh .places) n (repulled (placeUnder one n) pull)
             ∙ ap (λ (pulls : List Float). set pulls n pull) (alike .pulls)
-            ∙ sym (pulls-with (other .mesh .places) n (repulled (placeOf other n) pull))
+            ∙ sym (pulls-with (other .mesh .places) n (repulled (placeUnder other n) pull))
 
         by-outcome : (outcome : Outcome) → AlikeSet (pulledBy outcome one n pull) (pulledBy outcome other n pull)
         by-outcome Done = (refl, record { store = alike .store; listing = alike .listing; pulls = repulled-too; kept = alike .kept; knots = alike .knots })

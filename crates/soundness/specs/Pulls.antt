@@ -1,8 +1,8 @@
 -- THE PULLS OF A MAP, after every list of calls of the kinds of MapCalls, with any arguments, whatever they answer. Each of the 128 numbers has the pull that was last set for it by a
 -- call that was answered 0, and 1.0 if there was none: so one for which no such call was made has the pull 1.0, whether it was made by an insertion, done or torn, or alone, or not at
--- all. Where every pull so set is 1.0, every evaluation is the one without pulls, bit for bit; of settings that are refused nothing is asked. And nothing but evaluations sees the
--- pulls: a list leaves the points with their sides and counts, the positions, the listing, the kept knots and the index that it leaves without its settings of pulls, and on any map
--- every call but an evaluation tells what it tells where every pull is 1.0.
+-- all; and one that is not made has it too, so that a point has it when it is made. Where every pull so set is 1.0, every evaluation is the one without pulls, bit for bit; of settings
+-- that are refused nothing is asked. And nothing but evaluations sees the pulls: a list leaves the points with their sides, how many are made, the positions, the listing, the kept knots
+-- and the index that it leaves without its settings of pulls, and on any map every call but an evaluation tells what it tells where every pull is 1.0.
 -- Every beginning of a list is a list, so that it is so throughout one.
 use Prim.Native.Nat.{ℕ, _<_}
 use mathlib.Core.Path.{_≡_}

@@ -1,5 +1,5 @@
 -- The theorems of Pulls. A point is made with the pull 1.0, and the places of numbers not made have it too; only a setting that is done stores another, in the place of a made number, which
--- stays made. So each call moves a pull as `callPull` says, and the two theorems on 1.0 are read off the last one set. No definition but the evaluation's value reads a pull.
+-- stays made. So each call moves a pull as `callPull` says, and the theorems on 1.0 are read off the last one set, or off what is not made. No definition but the evaluation's value reads a pull.
 use Prim.Native.Nat.{ℕ, zero, suc, _+_, _≤_, _<_}
 use mathlib.Core.Path.{_≡_, refl, sym, ap, _∙_, subst}
 use mathlib.Core.Bool.{Bool, true, false, cond, _&&_, false≢true}
@@ -26,7 +26,7 @@ use Rattle.insertion.specs.Withdrawal.{isWithdrawn}
 use Rattle.insertion.specs.declared.insertion.InsertAnswer.{InsertAnswer}
 use Rattle.insertion.specs.declared.insertion.InsertAnswer.the-variants.{Done as Added, Torn, Refused as NotAdded}
 use Rattle.t_mesh.specs.Insertion.{withPlaced, afterInsertion, addControlPoint}
-use Rattle.t_mesh.specs.Tmesh.{unpulled, noPlace, placeOf, pullOf, storeOf, isListed, origin, newTmesh}
+use Rattle.t_mesh.specs.Tmesh.{unpulled, noPlace, placeUnder, pullOf, storeOf, isListed, origin, newTmesh}
 use Rattle.t_mesh.specs.declared.t_mesh.Mesh.{Mesh}
 use Rattle.t_mesh.specs.declared.t_mesh.Place.{Place}
 use Rattle.t_mesh.specs.declared.t_mesh.Position.{Position}
@@ -146,10 +146,10 @@ module _ (map : Tmesh) (sound : SoundMesh (map .mesh)) (unmade : Unmade (map .me
       pulled-case map m pull (λ after. Unmade (after .mesh)) unmade
       (λ made _.
       record {
-        room = length-set (map .mesh .places) m (repulled (placeOf map m) pull) ∙ unmade .room;
+        room = length-set (map .mesh .places) m (repulled (placeUnder map m) pull) ∙ unmade .room;
         ones = λ n h room.
             ap (λ (place : Place). place .pull)
-            (getD-set-other (map .mesh .places) m n (repulled (placeOf map m) pull) noPlace
+            (getD-set-other (map .mesh .places) m n (repulled (placeUnder map m) pull) noPlace
             (λ same. let below = isMade-made (map .mesh .made) m made in omega (arith, same, h, below)))
             ∙ unmade .ones n h room;
       })

@@ -1,5 +1,5 @@
--- Evaluation of a map at (s, t) (`subs`). Knots are built only if none are kept. A point's weight is the product of its two basis
--- functions, that product times its pull; the answer is the sum of position × weight over the sum of the weights, axis by axis, each sum
+-- Evaluation of a map at (s, t) (`subs`). Knots are built only if none are kept. A point's weight is basis product × pull: the
+-- product of its two basis functions, rounded, times its pull; the answer is the sum of position × weight over the sum of the weights, axis by axis, each sum
 -- from +0.0 over the listed points in the order of their numbers, every product, quotient and sum rounding once; and beside it the sum of
 -- the weights. The source has no pulls; without them it is as in Plain.antt.
 use Prim.Native.Nat.{ℕ, zero, suc, _+_}

@@ -13,7 +13,7 @@ use Rattle.control_point.specs.Told.{Told, unless, refusedOr}
 use Rattle.control_point.specs.declared.refusal.Outcome.the-variants.{Done, Refused}
 use Rattle.control_point.specs.declared.refusal.Refusal.the-variants.{NoWeight}
 use Rattle.ray.specs.declared.knots.PointKnots.{PointKnots}
-use Rattle.t_mesh.specs.Tmesh.{Axis, X, Y, Z, coordinate, placeOf, positionOf, isListed}
+use Rattle.t_mesh.specs.Tmesh.{Axis, X, Y, Z, coordinate, placeUnder, positionOf, isListed}
 use Rattle.t_mesh.specs.declared.t_mesh.Place.{Place}
 use Rattle.t_mesh.specs.declared.t_mesh.Position.{Position}
 use Rattle.t_mesh.specs.declared.t_mesh.Tmesh.{Tmesh}
@@ -84,7 +84,7 @@ module _ (map : Tmesh) (s t : Float) where
       )
 
   module _ (n : ℕ) (x y z weight x′ y′ z′ weight′ : Float) (h : n < 128) (sums : Sums map s t n x y z weight) where
-    pub sums-added : (share : Share) → isListed map n ≡ true → share ≡ shareBy (knotsOf map n) (placeOf map n) s t
+    pub sums-added : (share : Share) → isListed map n ≡ true → share ≡ shareBy (knotsOf map n) (placeUnder map n) s t
         → x′ ≡ add binary64 x (share .x) → y′ ≡ add binary64 y (share .y) → z′ ≡ add binary64 z (share .z) → weight′ ≡ add binary64 weight (share .weight)
         → Sums map s t (n + 1) x′ y′ z′ weight′
     sums-added share l k a b c d =

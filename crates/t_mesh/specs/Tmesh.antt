@@ -1,4 +1,4 @@
--- The map. A position is three floats; a point's place is its position and its pull, by which an evaluation multiplies its weight. Places stand
+-- The map. A position is three floats; a point's place is its position and its pull: in an evaluation its weight is basis product × pull. Places stand
 -- beside the points, since no value but an evaluation's depends on them: nothing of a mesh's shape can. A point is listed once its insertion is
 -- done; the listing's order is that of the numbers. One flag says whether the knots of the listed points, and the index that is built from
 -- them, are kept.
@@ -41,15 +41,15 @@ noPosition = record { x = nan; y = nan; z = nan }
 abbrev pub noPlace : Place
 noPlace = record { position = noPosition; pull = nan }
 
--- a point's
-abbrev pub placeOf : Tmesh → ℕ → Place
-placeOf map n = getD (map .mesh .places) n noPlace
+-- those of the point under a number
+abbrev pub placeUnder : Tmesh → ℕ → Place
+placeUnder map n = getD (map .mesh .places) n noPlace
 
 abbrev pub positionOf : Tmesh → ℕ → Position
-positionOf map n = placeOf map n .position
+positionOf map n = placeUnder map n .position
 
 abbrev pub pullOf : Tmesh → ℕ → Float
-pullOf map n = placeOf map n .pull
+pullOf map n = placeUnder map n .pull
 
 -- ---- the store and the listing
 -- the store of a mesh, and of a map

@@ -14,7 +14,7 @@ pub struct Position {
     pub z: f64,
 }
 
-// Where a point stands, and how hard it pulls: its weight in an evaluation is multiplied by its pull.
+// Where a point stands, and how hard it pulls: in an evaluation its weight is basis product × pull.
 pub struct Place {
     pub position: Position,
     pub pull: f64,

@@ -6,10 +6,10 @@ use Rattle.bench_host.proofs.bench_settings.Statement.{statement}
 use Rattle.bench_host.proofs.bench_settings.Tie as tie
 
 abbrev Inv-loop : tie.InvT-loop
-Inv-loop edits repeats map₀ pull₀ total₀ turn₀ map pull total turn = turn ≤ repeats
+Inv-loop edits repeats map₀ total₀ turn₀ map total turn = turn ≤ repeats
 
 abbrev μ-loop : tie.MeasureT-loop
-μ-loop edits repeats map₀ pull₀ total₀ turn₀ map pull total turn = repeats - turn
+μ-loop edits repeats map₀ total₀ turn₀ map total turn = repeats - turn
 
 map-of-requires : tie.Need-map-of-requires Inv-loop μ-loop
 map-of-requires c κs = search needs
@@ -17,8 +17,8 @@ map-of-requires c κs = search needs
 loop-holds : tie.Need-loop-holds Inv-loop μ-loop
 loop-holds c = search needs
 
-cast-set-pull : tie.Need-cast-set-pull Inv-loop μ-loop
-cast-set-pull c = search needs
+corner-pull-requires : tie.Need-corner-pull-requires Inv-loop μ-loop
+corner-pull-requires c κs = search needs
 
 set-pull-requires : tie.Need-set-pull-requires Inv-loop μ-loop
 set-pull-requires c κs = search needs
@@ -38,8 +38,8 @@ loop-less c = omega arith
 loop-again : tie.Need-loop-again Inv-loop μ-loop
 loop-again c = omega arith
 
-corner-pull-requires : tie.Need-corner-pull-requires Inv-loop μ-loop
-corner-pull-requires c κs = search needs
+corner-pull-requires-2 : tie.Need-corner-pull-requires-2 Inv-loop μ-loop
+corner-pull-requires-2 c κs = search needs
 
 to-bits-requires : tie.Need-to-bits-requires Inv-loop μ-loop
 to-bits-requires c κs = search needs
@@ -58,14 +58,14 @@ bench-settings-spec =
     μ-loop
     map-of-requires
     loop-holds
-    cast-set-pull
+    corner-pull-requires
     set-pull-requires
     number-requires
     counted-requires
     add-turn
     loop-less
     loop-again
-    corner-pull-requires
+    corner-pull-requires-2
     to-bits-requires
     counted-wide-requires
     returns)

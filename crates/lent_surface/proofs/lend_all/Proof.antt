@@ -5,7 +5,7 @@ use mathlib.Core.Path.{_≡_, sym, _∙_}
 use native.Mathlib.Omega.{arith}
 use borrow.Author.Needs.{needs}
 use lib.ListN.{length-map}
-use Rattle.t_mesh.specs.Tmesh.{noPlace, placeOf}
+use Rattle.t_mesh.specs.Tmesh.{noPlace, placeUnder}
 use Rattle.values.specs.ValuesLaws.{StoredTo, stored-none, stored-more}
 use Rattle.surface.specs.Evaluation.{knotsOf}
 use Rattle.lent_surface.specs.Lent.{placeRow}
@@ -17,7 +17,7 @@ abbrev Inv-loop : tie.InvT-loop
 Inv-loop across₀ upwards₀ places₀ listed map own n₀ across upwards places n =
     (n ≤ 128)
     × (StoredTo (λ (m : ℕ). knotsOf map m .s) [] 128 n across
-    × (StoredTo (λ (m : ℕ). knotsOf map m .t) [] 128 n upwards × StoredTo (λ (m : ℕ). placeRow (placeOf map m)) (placeRow noPlace) 128 n places))
+    × (StoredTo (λ (m : ℕ). knotsOf map m .t) [] 128 n upwards × StoredTo (λ (m : ℕ). placeRow (placeUnder map m)) (placeRow noPlace) 128 n places))
 
 abbrev μ-loop : tie.MeasureT-loop
 μ-loop across₀ upwards₀ places₀ listed map own n₀ across upwards places n = 128 - n
@@ -59,7 +59,7 @@ loop-again c =
         stored-more (λ (m : ℕ). knotsOf map m .s) [] 128 (k .n) (k .across) _ (omega arith) (e .0) (k .inv .1 .0),
         (
           stored-more (λ (m : ℕ). knotsOf map m .t) [] 128 (k .n) (k .upwards) _ (omega arith) (e .1 .0) (k .inv .1 .1 .0),
-          stored-more (λ (m : ℕ). placeRow (placeOf map m)) (placeRow noPlace) 128 (k .n) (k .places) _ (omega arith) (e .1 .1) (k .inv .1 .1 .1),
+          stored-more (λ (m : ℕ). placeRow (placeUnder map m)) (placeRow noPlace) 128 (k .n) (k .places) _ (omega arith) (e .1 .1) (k .inv .1 .1 .1),
         ),
       ),
     )
