@@ -2,7 +2,7 @@
 //! infinite, subnormal ratios, positions at the ends of 0 to 1 and one float beside, anything on the other axes and for points that are refused, torn or
 //! withdrawn, and parameters on knots and one float beside. On half of the maps pulls are set, as hostile, anywhere in the list, and such as are refused. It
 //! guards the statement of the bound against a wrong reading; what is proved it cannot find.
-use crate::draw::{MapList, NO_PULLS, PULLS, Ratios, place, pulled_point, ratio};
+use crate::draw::{MapList, PULLS, REFUSED_PULLS, Ratios, place, pulled_point, ratio};
 use crate::map_calls::{MapAnswer, MapCall};
 use crate::random::Random;
 use crate::reading::Insertion;
@@ -82,7 +82,7 @@ fn parameter(random: &mut Random, knots: &[f64]) -> f64 {
 /// Where pulls are set on a map, one in two times that it is asked: one that is accepted, or else one that is refused.
 fn set_pulls(list: &mut MapList, random: &mut Random, size: Option<&[f64]>) {
     if let (Some(size), true) = (size, random.one_in(2)) {
-        let pull = if random.one_in(6) { random.of(&NO_PULLS) } else { random.of(size) };
+        let pull = if random.one_in(6) { random.of(&REFUSED_PULLS) } else { random.of(size) };
         let point = pulled_point(random, &list.maps.reading);
         list.set_pull(point, pull);
     }

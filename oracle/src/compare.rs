@@ -7,7 +7,7 @@ use crate::random::Random;
 use crate::reading::{Insertion, RING};
 
 /// How often each answer occurs, by kind of call; the links inferred, the insertions withdrawn, the openings, the values with a positive and finite
-/// weight, those with a pull other than 1.0, the cells that a listed point misses, and those that one of number 64 or more reaches.
+/// weight, all values with a listed point whose pull is not 1.0, the cells that a listed point misses, and those that one of number 64 or more reaches.
 #[derive(Default)]
 pub struct Tally {
     answers: [[u64; 18]; 14],

@@ -62,6 +62,13 @@ impl MapList {
         let point = pulled_point(random, &self.maps.reading);
         self.set_pull(point, pulls.next(random));
     }
+
+    /// Four such settings, where pulls are set.
+    fn set_some_pulls(&mut self, random: &mut Random, pulls: Pulls) {
+        if pulls != Pulls::Never {
+            (0..4).for_each(|_| self.set_some_pull(random, pulls));
+        }
+    }
 }
 
 fn coordinate(random: &mut Random) -> f64 {
@@ -147,7 +154,7 @@ impl Withdrawing {
 pub const PULLS: [f64; 11] = [0.0, -0.0, 0.5, 2.0, 3.0, 1.0 / 3.0, 1e300, 5e-324, 1e-310, f64::MIN_POSITIVE, f64::MAX];
 
 /// Pulls that are refused.
-pub const NO_PULLS: [f64; 7] = [-1.0, -0.5, -5e-324, f64::MIN, f64::INFINITY, f64::NEG_INFINITY, f64::NAN];
+pub const REFUSED_PULLS: [f64; 7] = [-1.0, -0.5, -5e-324, f64::MIN, f64::INFINITY, f64::NEG_INFINITY, f64::NAN];
 
 /// Which pulls are set on a map.
 #[derive(Clone, Copy, PartialEq)]
@@ -167,7 +174,7 @@ impl Pulls {
     /// The next pull. Huge and tiny ones are rare: beside them no other counts.
     fn next(self, random: &mut Random) -> f64 {
         match random.below(12) {
-            0 => random.of(&NO_PULLS),
+            0 => random.of(&REFUSED_PULLS),
             1..=3 if self == Pulls::Any => 2.0 * random.unit(),
             4..=6 if self == Pulls::Any => random.of(&[0.0, -0.0, 0.5, 2.0, 3.0]),
             7 if self == Pulls::Any => random.of(&PULLS),
@@ -337,9 +344,7 @@ pub fn map(random: &mut Random, plan: Plan) -> MapList {
             }
         }
     }
-    if plan.pulls != Pulls::Never {
-        (0..4).for_each(|_| list.set_some_pull(random, plan.pulls));
-    }
+    list.set_some_pulls(random, plan.pulls);
     if plan.questions {
         list.call(evaluation(random));
         list.ask(Some(cell(random, &list.maps.reading)));
@@ -347,7 +352,7 @@ pub fn map(random: &mut Random, plan: Plan) -> MapList {
     list
 }
 
-/// A map whose store is filled, and edits beyond.
+/// A map whose store is filled, and edits and settings beyond.
 pub fn full_map(random: &mut Random, withdrawing: Withdrawing, pulls: Pulls) -> MapList {
     let plan = Plan { edits: 100, questions: false, direct_calls: false, withdrawing, pulls };
     let mut list = map(random, plan);
@@ -358,5 +363,6 @@ pub fn full_map(random: &mut Random, withdrawing: Withdrawing, pulls: Pulls) -> 
         insert_drawn(&mut list, random, withdrawing, (con, direction, ratio));
         edits += 1;
     }
+    list.set_some_pulls(random, pulls);
     list
 }

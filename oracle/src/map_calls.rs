@@ -74,7 +74,7 @@ pub struct Maps {
     same_knots: bool,
     /// What the insertions answered, until the first direct call, which may change sides by itself.
     ledger: Option<Ledger>,
-    /// How many values were the reading's alone, since the pull of a listed point was not 1.0.
+    /// How many values had a listed point with another pull than 1.0.
     pub pulled_values: u64,
     pub corners: [[f64; 3]; 4],
     pub border: f64,

@@ -1,7 +1,7 @@
 //! Lists of calls on whole maps, each with the answer of every call and the map at the end.
 use crate::bytes::Bytes;
 use crate::calls::Call;
-use crate::draw::{MapList, NO_PULLS, Plan, Pulls, RING_PREFIXES, Withdrawing, cell, evaluation, full_map, map, question};
+use crate::draw::{MapList, Plan, Pulls, REFUSED_PULLS, RING_PREFIXES, Withdrawing, cell, evaluation, full_map, map, question};
 use crate::index::{Cell, LINES};
 use crate::ledger::Census;
 use crate::map_calls::{MapAnswer, MapCall, put_map, put_map_answer, put_map_call};
@@ -12,7 +12,7 @@ use crate::reading::{
 };
 
 const ALL_RAYS: usize = 24;
-const SOME_RAYS: usize = 152;
+const SOME_RAYS: usize = 147;
 const DIRECT_CALLS: usize = 60;
 const FULL_STORES: usize = 6;
 const EVERY_LENGTH: [usize; 6] = [0, 1, 2, 3, 4, 5];
@@ -185,37 +185,37 @@ fn worked_examples(random: &mut Random) -> Vec<MapList> {
     lists.extend([withdrawn_full(random), withdrawing_refused(random), of_sample(SAMPLES[1])]);
     lists.extend(WITHDRAWN.map(|edits| edited(random, true, edits, &[2, 5])));
     lists.extend([pulled_kept(random), pulled_unlisted(random), pulled_new(random), pulls_refused(), no_pull(), largest_pulls()]);
-    lists.extend([pulled_order(), pulls_lent(random), pulls_withdrawn(random)]);
+    lists.extend([infinite_weight(random), pulled_order(), pulls_lent(random), pulls_withdrawn(random), pulled_full(random)]);
     lists
 }
 
-const PLACE: (f64, f64) = (0.25, 0.75);
+const AT: (f64, f64) = (0.25, 0.75);
 
 fn value_at(list: &mut MapList, (s, t): (f64, f64)) -> Value {
     let MapAnswer::Evaluated(Ok(value)) = list.call(MapCall::Evaluate { s, t }) else { panic!("a refusal") };
     value
 }
 
-/// A setting leaves the knots kept and their index, here those of before a torn insertion: built anew they are others. Where none are kept, none are after
-/// it. The pull set last stands.
+/// A setting leaves the knots kept and their index, here those of before a torn insertion: built anew they are others. The pull set last
+/// stands. At the end, where an insertion is done, no knots are kept, and none are kept after a setting.
 fn pulled_kept(random: &mut Random) -> MapList {
     let mut list = square();
     assert_eq!(list.insert(random, 0, RIGHT, 0.5).number(), 0);
-    assert_eq!(list.set_pull(0, 1.0), 0);
-    assert!(list.maps.reading.kept.is_none());
-    let (plain, cell) = (bits(&value_at(&mut list, PLACE)), reached(&mut list, 15));
+    let (plain, cell) = (bits(&value_at(&mut list, AT)), reached(&mut list, 15));
     assert_eq!(list.insert(random, 0, RIGHT, 0.0).number(), TORN);
     for (pull, number, same) in [(2.0, 0, false), (f64::NAN, PULL, false), (3.0, 0, false), (1.0, 0, true), (1.0, 0, true)] {
         assert_eq!(list.set_pull(0, pull), number);
-        assert_eq!(bits(&value_at(&mut list, PLACE)) == plain, same);
+        assert_eq!(bits(&value_at(&mut list, AT)) == plain, same);
         assert_eq!(reached(&mut list, 15), cell);
     }
     assert_eq!(list.set_pull(4, 0.5), 0);
     assert_eq!(list.call(MapCall::Generate).number(), 0);
     assert_ne!(reached(&mut list, 15), cell);
     assert_eq!(list.set_pull(4, 1.0), 0);
-    assert_ne!(bits(&value_at(&mut list, PLACE)), plain);
+    assert_ne!(bits(&value_at(&mut list, AT)), plain);
+    assert_eq!(list.insert(random, 2, DOWN, 0.5).number(), 0);
     assert_eq!(list.set_pull(1, 3.0), 0);
+    assert!(list.maps.reading.kept.is_none());
     list
 }
 
@@ -224,10 +224,10 @@ fn pulled_unlisted(random: &mut Random) -> MapList {
     let mut list = square();
     assert_eq!(list.insert(random, 0, RIGHT, 0.0).number(), TORN);
     assert_eq!(list.call(MapCall::Direct(Call::Make(1.0))).number(), 0);
-    let plain = bits(&value_at(&mut list, PLACE));
+    let plain = bits(&value_at(&mut list, AT));
     for point in [4, 5] {
         assert_eq!(list.set_pull(point, f64::MAX), 0);
-        assert_eq!(bits(&value_at(&mut list, PLACE)), plain);
+        assert_eq!(bits(&value_at(&mut list, AT)), plain);
     }
     list
 }
@@ -241,7 +241,7 @@ fn pulled_new(random: &mut Random) -> MapList {
     };
     refused(&mut list);
     assert_eq!(list.insert(random, 0, RIGHT, 0.5).number(), 0);
-    value_at(&mut list, PLACE);
+    value_at(&mut list, AT);
     refused(&mut list);
     assert_eq!(list.insert(random, 0, RIGHT, 0.0).number(), TORN);
     refused(&mut list);
@@ -250,7 +250,7 @@ fn pulled_new(random: &mut Random) -> MapList {
     assert_eq!(list.insert_or_withdraw(random, 4, RIGHT, 0.5).number(), 0);
     refused(&mut list);
     assert_eq!(list.call(MapCall::Direct(Call::Make(1.0))).number(), 0);
-    value_at(&mut list, PLACE);
+    value_at(&mut list, AT);
     list
 }
 
@@ -258,16 +258,16 @@ fn pulled_new(random: &mut Random) -> MapList {
 fn pulls_refused() -> MapList {
     let mut list = square();
     assert_eq!(list.set_pull(2, 0.5), 0);
-    let before = bits(&value_at(&mut list, PLACE));
-    for pull in NO_PULLS {
+    let before = bits(&value_at(&mut list, AT));
+    for pull in REFUSED_PULLS {
         for (point, number) in [(4, NO_POINT), (127, NO_POINT), (128, NO_POINT), (255, NO_POINT), (2, PULL)] {
             assert_eq!(list.set_pull(point, pull), number);
-            assert_eq!(bits(&value_at(&mut list, PLACE)), before);
+            assert_eq!(bits(&value_at(&mut list, AT)), before);
         }
     }
     let left_out = [-0.0, 0.0].map(|pull| {
         assert_eq!(list.set_pull(2, pull), 0);
-        bits(&value_at(&mut list, PLACE))
+        bits(&value_at(&mut list, AT))
     });
     assert_eq!(left_out[0], left_out[1]);
     assert_eq!(list.set_pull(2, -0.0), 0);
@@ -277,15 +277,15 @@ fn pulls_refused() -> MapList {
 /// With every pull 0.0 or −0.0 no weight is left; with one point's pull back, the value is that point's position.
 fn no_pull() -> MapList {
     let mut list = square();
-    let (s, t) = PLACE;
+    let (s, t) = AT;
     for (point, pull) in [(0, 0.0), (1, -0.0), (2, 0.0), (3, 0.0)] {
         assert_eq!(list.call(MapCall::SetPoint { s, t }).number(), 0);
         assert_eq!(list.set_pull(point, pull), 0);
     }
-    assert!(value_at(&mut list, PLACE).weight == 0.0);
+    assert!(value_at(&mut list, AT).weight == 0.0);
     assert_eq!(list.call(MapCall::SetPoint { s, t }).number(), NO_WEIGHT);
     assert_eq!(list.set_pull(3, 1.0), 0);
-    assert_eq!(value_at(&mut list, PLACE).position, SQUARE[3]);
+    assert_eq!(value_at(&mut list, AT).position, SQUARE[3]);
     assert_eq!(list.call(MapCall::SetPoint { s, t }).number(), 0);
     list
 }
@@ -301,13 +301,43 @@ fn largest_pulls() -> MapList {
     list
 }
 
+/// On a map with a total weight above 1 the largest pulls make it infinite, which is no weight.
+fn infinite_weight(random: &mut Random) -> MapList {
+    let mut list = square();
+    let (s, t) = (0.5, 0.5);
+    for (direction, ratio) in [(RIGHT, 0.5), (UP, 0.25)] {
+        assert_eq!(list.insert(random, 0, direction, ratio).number(), 0);
+    }
+    assert!(value_at(&mut list, (s, t)).weight > 1.0);
+    for point in 0..6 {
+        assert_eq!(list.set_pull(point, f64::MAX), 0);
+    }
+    assert_eq!(value_at(&mut list, (s, t)).weight, f64::INFINITY);
+    assert_eq!(list.call(MapCall::SetPoint { s, t }).number(), NO_WEIGHT);
+    list
+}
+
+/// Settings on a full store, whose points stand at even distances, so that each counts in the value beside it; the numbers behind them are never made.
+fn pulled_full(random: &mut Random) -> MapList {
+    let mut list = filled_line(random, |left| 1.0 / (left + 1) as f64);
+    for (point, number) in [(63, 0), (64, 0), (127, 0), (128, NO_POINT), (255, NO_POINT)] {
+        let (s, t) = ((point.min(127) - 3) as f64 / 125.0, 0.25);
+        let before = list.call(MapCall::Evaluate { s, t });
+        assert_eq!(list.set_pull(point, 3.0), number);
+        let after = list.call(MapCall::Evaluate { s, t });
+        assert_eq!(same_answers(&before, &after), number != 0);
+        assert_same_value(&after, &list.call(MapCall::Lend { s, t }));
+    }
+    list
+}
+
 /// The basis product is rounded before the pull is multiplied in: with the smallest pull it decides whether a weight is left.
 fn pulled_order() -> MapList {
     let mut list = square();
     for point in 0..4 {
         assert_eq!(list.set_pull(point, 5e-324), 0);
     }
-    for (s, t) in [(0.5, 0.5), PLACE, (0.125, 0.625), (0.0, 0.0), (0.75, 0.875)] {
+    for (s, t) in [(0.5, 0.5), AT, (0.125, 0.625), (0.0, 0.0), (0.75, 0.875)] {
         value_at(&mut list, (s, t));
     }
     list
@@ -319,7 +349,7 @@ fn pulls_lent(random: &mut Random) -> MapList {
     assert_eq!(list.insert(random, 0, RIGHT, 0.5).number(), 0);
     for (point, pull) in [(0, 3.0), (1, 0.1), (2, 1.7), (3, 1e300), (4, 0.0), (3, 0.7), (4, 5.0)] {
         assert_eq!(list.set_pull(point, pull), 0);
-        for (s, t) in [PLACE, (0.5, 0.5)] {
+        for (s, t) in [AT, (0.5, 0.5)] {
             let value = list.call(MapCall::Evaluate { s, t });
             assert_same_value(&value, &list.call(MapCall::Lend { s, t }));
         }
@@ -333,12 +363,12 @@ fn pulls_withdrawn(random: &mut Random) -> MapList {
     for (point, pull) in [(0, 3.0), (2, 0.3)] {
         assert_eq!(list.set_pull(point, pull), 0);
     }
-    let before = bits(&value_at(&mut list, PLACE));
+    let before = bits(&value_at(&mut list, AT));
     assert_eq!(list.insert_or_withdraw(random, 0, RIGHT, 0.0).number(), TORN);
-    assert_eq!(bits(&value_at(&mut list, PLACE)), before);
+    assert_eq!(bits(&value_at(&mut list, AT)), before);
     assert_eq!(list.set_pull(4, 2.0), NO_POINT);
     assert_eq!(list.insert_or_withdraw(random, 0, RIGHT, 0.5).number(), 0);
-    value_at(&mut list, PLACE);
+    value_at(&mut list, AT);
     assert_eq!(list.maps.reading.pulls, [3.0, 1.0, 0.3, 1.0, 1.0]);
     list
 }
@@ -640,15 +670,21 @@ fn no_knots() -> MapList {
     list
 }
 
-/// A line of points until the store is full: the 129th point is 10.
-fn full_line(random: &mut Random) -> MapList {
+/// A line of points until the store is full, each split off at a ratio by how many are still to be made, itself among them.
+fn filled_line(random: &mut Random, ratio: fn(usize) -> f64) -> MapList {
     let mut list = square();
     let mut con = 0;
     while list.maps.made() < CAPACITY {
-        assert_eq!(list.insert(random, con, RIGHT, 0.5).number(), 0);
+        assert_eq!(list.insert(random, con, RIGHT, ratio(CAPACITY - list.maps.made())).number(), 0);
         con = list.maps.made() as u8 - 1;
     }
-    assert_eq!(list.insert(random, con, RIGHT, 0.5).number(), FULL);
+    list
+}
+
+/// The 129th point is 10.
+fn full_line(random: &mut Random) -> MapList {
+    let mut list = filled_line(random, |_| 0.5);
+    assert_eq!(list.insert(random, CAPACITY as u8 - 1, RIGHT, 0.5).number(), FULL);
     assert_eq!(counts(&mut list), [128, 128, 128, 132, 124]);
     assert_eq!(list.call(MapCall::Direct(Call::Make(1.0))).number(), FULL);
     for cell in 0..LINES {
