@@ -40,12 +40,15 @@ fn packed_points<'a>(
 fn packed_places<'a>(positions: &'a [[f64; 3]; 128]) -> [Place; 128]
     ensures { λ r. ⌜ r ≡ valuesFrom (unpulledAt (now (positions .entry))) 128 0 ⌝ }
 {
-    let origin = Position {
-        x: 0.0,
-        y: 0.0,
-        z: 0.0,
+    let blank = Place {
+        position: Position {
+            x: 0.0,
+            y: 0.0,
+            z: 0.0,
+        },
+        pull: 0.0,
     };
-    let mut places = [unpulled(origin); 128];
+    let mut places = [blank; 128];
     let mut n: u8 = 0;
     while n < 128 {
         places[n as usize] = unpulled(lent_position(positions, n));

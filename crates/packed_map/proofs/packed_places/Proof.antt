@@ -5,7 +5,9 @@ use native.Mathlib.Omega.{arith}
 use borrow.Author.Needs.{needs}
 use denote.Ref.{now}
 use lib.ListN.{length-replicate, set}
-use Rattle.t_mesh.specs.Tmesh.{unpulled, noPlace}
+use Rattle.float64.specs.Literals.{zeroLiteral}
+use Rattle.t_mesh.specs.Tmesh.{unpulled, noPlace, origin}
+use Rattle.t_mesh.specs.declared.t_mesh.Place.{Place}
 use Rattle.lent_mesh.specs.LentMesh.{unpulledAt}
 use Rattle.values.specs.ValuesLaws.{StoredTo, stored-none, stored-more, stored-all}
 use Rattle.packed_map.proofs.packed_places.Statement.{statement}
@@ -17,17 +19,14 @@ Inv-loop positions places₀ n₀ places n = (n ≤ 128) × StoredTo (unpulledAt
 abbrev μ-loop : tie.MeasureT-loop
 μ-loop positions places₀ n₀ places n = 128 - n
 
-unpulled-requires : tie.Need-unpulled-requires Inv-loop μ-loop
-unpulled-requires c κs = search needs
-
 loop-holds : tie.Need-loop-holds Inv-loop μ-loop
-loop-holds c = (omega arith, stored-none (unpulledAt (now (c .before .args .positions))) noPlace 128 _ (length-replicate 128 (c .unpulled .result)))
+loop-holds c = (omega arith, stored-none (unpulledAt (now (c .args .positions))) noPlace 128 _ (length-replicate {A = Place} 128 (record { position = origin; pull = zeroLiteral })))
 
 lent-position-requires : tie.Need-lent-position-requires Inv-loop μ-loop
 lent-position-requires c κs = search needs
 
-unpulled-requires-2 : tie.Need-unpulled-requires-2 Inv-loop μ-loop
-unpulled-requires-2 c κs = search needs
+unpulled-requires : tie.Need-unpulled-requires Inv-loop μ-loop
+unpulled-requires c κs = search needs
 
 cast-places : tie.Need-cast-places Inv-loop μ-loop
 cast-places c = search needs
@@ -47,14 +46,14 @@ loop-less c = search needs
 loop-again : tie.Need-loop-again Inv-loop μ-loop
 loop-again c =
     let l = c .before .before .before in
-    let positions = now (l .before .before .args .positions) in
-    (omega arith, stored-more (unpulledAt positions) noPlace 128 (l .loop .n) (l .loop .places) _ (omega arith) (ap (set (l .loop .places) (l .loop .n)) (c .unpulled2 .ensures ∙ ap unpulled (c .before .lent-position .ensures))) (l .loop .inv .1))
+    let positions = now (l .before .args .positions) in
+    (omega arith, stored-more (unpulledAt positions) noPlace 128 (l .loop .n) (l .loop .places) _ (omega arith) (ap (set (l .loop .places) (l .loop .n)) (c .unpulled .ensures ∙ ap unpulled (c .before .lent-position .ensures))) (l .loop .inv .1))
 
 returns : tie.Need-returns Inv-loop μ-loop
 returns c =
     let l = c .before in
     let all : l .loop .n ≡ 128 = omega arith in
-    stored-all (unpulledAt (now (l .before .before .args .positions))) noPlace 128 (l .loop .n) (l .loop .places) all (l .loop .inv .1)
+    stored-all (unpulledAt (now (l .before .args .positions))) noPlace 128 (l .loop .n) (l .loop .places) all (l .loop .inv .1)
 
 pub packed-places-spec : {M : Type 1} → statement M
 packed-places-spec =
@@ -62,10 +61,9 @@ packed-places-spec =
     (tie.spec
     Inv-loop
     μ-loop
-    unpulled-requires
     loop-holds
     lent-position-requires
-    unpulled-requires-2
+    unpulled-requires
     cast-places
     mul-places
     array-set-from-places
