@@ -1,7 +1,7 @@
 -- Laws of setting a pull: its outcome by the two tests, the map by its outcome, and that it tells what its table says.
 use Prim.Native.Nat.{ℕ}
 use mathlib.Core.Path.{_≡_, refl, sym, ap, _∙_}
-use mathlib.Core.Bool.{Bool, true, false, cond, false≢true}
+use mathlib.Core.Bool.{Bool, true, false, cond}
 use mathlib.Core.List.{[]}
 use lib.Ieee.{Float}
 use Rattle.control_point.specs.Point.{isMade}
@@ -10,6 +10,7 @@ use Rattle.control_point.specs.declared.refusal.Outcome.{Outcome}
 use Rattle.control_point.specs.declared.refusal.Outcome.the-variants.{Done, Refused}
 use Rattle.control_point.specs.declared.refusal.Refusal.{Refusal}
 use Rattle.control_point.specs.declared.refusal.Refusal.the-variants.{NoPoint, Pull}
+use Rattle.store.specs.TablesLaws.{refused-not}
 use Rattle.t_mesh.specs.declared.t_mesh.Tmesh.{Tmesh}
 use Rattle.pull.specs.Pull.{canPull, withPull, pullOutcome, pulledBy, setPull, pullTable}
 
@@ -32,13 +33,9 @@ module _ (made n : ℕ) (pull : Float) where
   pub done-made : Done ≡ pullOutcome made n pull → isMade made n ≡ true
   done-made is = by-test (isMade made n) is
     where
-      isDone : Outcome → Bool
-      isDone Done = true
-      isDone (Refused refusal) = false
-
       by-test : (b : Bool) → Done ≡ byTests b (canPull pull) → b ≡ true
       by-test true h = refl
-      by-test false h = absurd (false≢true (sym (ap isDone h)))
+      by-test false h = refused-not NoPoint (sym h)
 
 module _ (map : Tmesh) (n : ℕ) (pull : Float) where
   -- by its outcome

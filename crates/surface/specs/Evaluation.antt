@@ -1,7 +1,7 @@
 -- Evaluation of a map at (s, t) (`subs`). Knots are built only if none are kept. A point's weight is basis product × pull: the
--- product of its two basis functions, rounded, times its pull; the answer is the sum of position × weight over the sum of the weights, axis by axis, each sum
--- from +0.0 over the listed points in the order of their numbers, every product, quotient and sum rounding once; and beside it the sum of
--- the weights. The source has no pulls; without them it is as in Plain.antt.
+-- product of its two basis functions, rounded, times its pull; the answer is the sum of position × weight over the sum of the weights,
+-- axis by axis, each sum from +0.0 over the listed points in the order of their numbers, every product, quotient and sum rounding once;
+-- and beside it the sum of the weights. The source has no pulls; without them it is as in Plain.antt.
 use Prim.Native.Nat.{ℕ, zero, suc, _+_}
 use mathlib.Core.Bool.{Bool, false, cond, _&&_}
 use mathlib.Core.List.{[], _∷_}

@@ -20,7 +20,7 @@ pub struct Place {
     pub pull: f64,
 }
 
-// The points and how many are made, as in a store; their places; which of them are listed. The arrays stand first, so that a map is copied in whole words.
+// The points and how many are made, as in a store; their places; which of them are listed. The arrays stand first, so that they are copied together.
 pub struct Mesh {
     pub points: [TmeshControlPoint; 128],
     pub places: [Place; 128],
