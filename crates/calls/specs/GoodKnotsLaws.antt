@@ -35,7 +35,7 @@ use Rattle.t_mesh.specs.Tmesh.{storeOf, blankKnots}
 use Rattle.t_mesh.specs.declared.t_mesh.Tmesh.{Tmesh}
 use Rattle.knot_vectors.specs.Knots.{allKnots}
 use Rattle.grid_index.specs.Index.{noKnots as noRow}
-use Rattle.mirror.specs.BoolLaws.{cond-case}
+use Rattle.counting.specs.BoolLaws.{cond-case}
 use Rattle.calls.specs.ListLaws.{set-case}
 use Rattle.calls.specs.RowsLaws.{OfRows, all-rows}
 use Rattle.calls.specs.Good.{NotNegative, GoodSide, GoodSides, GoodStore, GoodWalk, GoodEntry, GoodEntries, GoodRay, GoodBasis, GoodKnots, GoodRows}

@@ -35,7 +35,7 @@ use Rattle.insertion.specs.Insert.{inUnit, cut, pointInLine, placed, soughtSide
 use Rattle.insertion.specs.declared.insertion.Inserted.{Inserted}
 use Rattle.insertion.specs.declared.insertion.NewSide.{NewSide}
 use Rattle.insertion.specs.declared.insertion.NewSide.the-variants.{Takes, Joins, Opens, Tears, Stays}
-use Rattle.mirror.specs.BoolLaws.{cond-case}
+use Rattle.counting.specs.BoolLaws.{cond-case}
 use Rattle.calls.specs.ListLaws.{set-case}
 use Rattle.calls.specs.InsertionLaws.{insertion-case}
 use Rattle.calls.specs.Good.{NotNegative, GoodSide, GoodSides, GoodPoint, GoodStore, GoodWalk, GoodFound, GoodNewSide}

@@ -22,7 +22,7 @@ use Rattle.insertion.specs.Insert.{inUnit, checkedIntervals, checkedFacing, che
 use Rattle.insertion.specs.declared.insertion.Checked.{Checked}
 use Rattle.insertion.specs.declared.insertion.InsertAnswer.the-variants.{Refused}
 use Rattle.insertion.specs.declared.insertion.Inserted.{Inserted}
-use Rattle.mirror.specs.BoolLaws.{cond-case}
+use Rattle.counting.specs.BoolLaws.{cond-case}
 
 module _ (P : Inserted → Type 0) (e : Float) (store : Store) (con : ℕ) (d : TmeshDirection) (ratio : Float) where
   -- the point placed in a link, with its two sides across

@@ -10,7 +10,7 @@ use Rattle.control_point.specs.declared.refusal.Refusal.the-variants.{NoPoint, 
 use Rattle.t_mesh.specs.declared.t_mesh.Tmesh.{Tmesh}
 use Rattle.pull.specs.Pull.{canPull, withPull, pulledBy, setPull}
 use Rattle.pull.specs.declared.Pulled.{Pulled}
-use Rattle.mirror.specs.BoolLaws.{cond-case}
+use Rattle.counting.specs.BoolLaws.{cond-case}
 
 module _ (map : Tmesh) (n : ℕ) (pull : Float) where
   pub setting-case : (Holds : Pulled → Type 0) → (isMade (map .mesh .made) n ≡ false → Holds (record { outcome = Refused NoPoint; map = map }))

@@ -10,7 +10,7 @@ use Rattle.ray.specs.declared.knots.PointKnots.{PointKnots}
 use Rattle.t_mesh.specs.Tmesh.{storeOf, isListed}
 use Rattle.t_mesh.specs.declared.t_mesh.Tmesh.{Tmesh}
 use Rattle.knot_vectors.specs.Knots.{AllKnots, all, none, onAll, inRow, withRow, rowsFrom, allKnots}
-use Rattle.mirror.specs.BoolLaws.{cond-case}
+use Rattle.counting.specs.BoolLaws.{cond-case}
 
 -- rows that are not refused
 abbrev pub OfRows : (List PointKnots → Type 0) → AllKnots → Type 0

@@ -39,7 +39,7 @@ use Rattle.knot_vectors.specs.declared.knots.Generated.{Generated}
 use Rattle.cells.specs.Cells.{cellPoints}
 use Rattle.calls.specs.Calls.{evaluated}
 use Rattle.calls.specs.FullStroke.{InUnit}
-use Rattle.mirror.specs.BoolLaws.{cond-case, and-both}
+use Rattle.counting.specs.BoolLaws.{cond-case, and-both}
 use Rattle.calls.specs.ListLaws.{set-case, replicate-case}
 use Rattle.calls.specs.Good.{NotNegative, GoodSide, GoodPoint, GoodStore, GoodKnots, GoodRows}
 use Rattle.calls.specs.GoodLaws.{zero-not-negative, loose-point, point-inserted}

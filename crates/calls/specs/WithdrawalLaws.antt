@@ -7,7 +7,7 @@ use Rattle.insertion.specs.Withdrawal.{isWithdrawn}
 use Rattle.t_mesh.specs.Insertion.{addControlPoint, addByRule}
 use Rattle.t_mesh.specs.declared.t_mesh.Position.{Position}
 use Rattle.t_mesh.specs.declared.t_mesh.Tmesh.{Tmesh}
-use Rattle.mirror.specs.BoolLaws.{cond-case}
+use Rattle.counting.specs.BoolLaws.{cond-case}
 
 pub by-either-rule : (Holds : Tmesh → Type 0) (withdraws : Bool) (e : Float) (map : Tmesh) (con : ℕ) (d : TmeshDirection) (ratio : Float) (position : Position)
     → Holds map → Holds (addControlPoint e map con d ratio position .map) → Holds (addByRule withdraws e map con d ratio position .map)

@@ -1,4 +1,6 @@
+pub mod BoolLaws
 pub mod Counting
 pub mod CountLaws
 pub mod SumLaws
 pub mod PairLaws
+pub mod SomeLaws

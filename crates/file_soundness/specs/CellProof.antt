@@ -32,8 +32,8 @@ use Rattle.calls.specs.WithdrawalLaws.{by-either-rule}
 use Rattle.soundness.specs.IndexProof.{isWords, every-answer-says}
 use Rattle.soundness.specs.MapCalls.{entries}
 use Rattle.map_format.specs.Format.{borderAt, editsAt, fileWithdraws, editCount, Edit, editsFrom, checkedFile}
-use Rattle.map_format.specs.declared.format.FileCheck.{FileCheck}
-use Rattle.map_format.specs.declared.format.FileCheck.the-variants.{Valid, Refused as NotValid}
+use Rattle.counted_file.specs.declared.FileCheck.{FileCheck}
+use Rattle.counted_file.specs.declared.FileCheck.the-variants.{Valid, Refused as NotValid}
 use Rattle.map_file.specs.Run.{cornerOf, freshMap, edited, afterEdits, fileMap}
 use Rattle.map_file.specs.RunLaws.{none-after}
 use Rattle.map_cell.specs.FileCell.{checkedCell, fileCell}

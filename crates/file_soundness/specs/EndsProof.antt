@@ -12,8 +12,8 @@ use Rattle.surface.specs.declared.evaluation.EvaluationAnswer.{EvaluationAnswer
 use Rattle.t_mesh.specs.Tmesh.{storeOf}
 use Rattle.map_format.specs.Format.{checkedFile}
 use Rattle.map_file.specs.Run.{fileMap, fileNumbers, setPointAt, checkedSetPoint, fileSetPoint}
-use Rattle.map_format.specs.declared.format.FileCheck.{FileCheck}
-use Rattle.map_format.specs.declared.format.FileCheck.the-variants.{Valid, Refused}
+use Rattle.counted_file.specs.declared.FileCheck.{FileCheck}
+use Rattle.counted_file.specs.declared.FileCheck.the-variants.{Valid, Refused}
 use Rattle.openings.specs.Openings.{openingsOf}
 use Rattle.report_lines.specs.Lines.{editLines, countsLine, openLines, midLine}
 use Rattle.report.specs.Report.{half, checkedReport, reportOf}

@@ -34,12 +34,12 @@ use Rattle.surface.specs.declared.evaluation.EvaluationAnswer.the-variants.{Is,
 use Rattle.calls.specs.Calls.{Call, insertion, evaluation, question, pulling, Answer, evaluated, runOf}
 use Rattle.calls.specs.FullStroke.{InUnit, Each, DoneInUnit as CallDoneInUnit, EvaluationInUnit}
 use Rattle.calls.specs.FullStrokeProof.{never-past-full-stroke}
-use Rattle.mirror.specs.BoolLaws.{cond-case}
+use Rattle.counting.specs.BoolLaws.{cond-case}
 use Rattle.soundness.specs.MapCalls.{answerTold}
 use Rattle.map_format.specs.Format.{borderAt, editsAt, fileWithdraws, editCount, versionOf, isVersion, Edit, editsFrom, lengthRight, headingsRight, checkedFile}
 use Rattle.map_file.specs.Run.{cornerOf, freshMap, edited, afterEdits, editAnswers, editNumbers, fileMap, fileNumbers, checkedSetPoint, fileSetPoint}
-use Rattle.map_format.specs.declared.format.FileCheck.{FileCheck}
-use Rattle.map_format.specs.declared.format.FileCheck.the-variants.{Valid, Refused as NotValid}
+use Rattle.counted_file.specs.declared.FileCheck.{FileCheck}
+use Rattle.counted_file.specs.declared.FileCheck.the-variants.{Valid, Refused as NotValid}
 use Rattle.value_bytes.specs.Value.{bitsOf, bytesOfValue}
 use Rattle.gatemap_host.specs.SetPoint.{hostAnswer, bufferAfter}
 use Rattle.file_soundness.specs.CallsLaws.{callsOf}

@@ -10,7 +10,7 @@ use Rattle.big_endian.specs.BigEndian.{floatAt}
 use Rattle.control_point.specs.Refusal.{refusalNumber}
 use Rattle.control_point.specs.Small.{millionth}
 use Rattle.control_point.specs.declared.refusal.Refusal.{Refusal}
-use Rattle.mirror.specs.BoolLaws.{cond-case}
+use Rattle.counting.specs.BoolLaws.{cond-case}
 use Rattle.surface.specs.Evaluation.{evaluationNumber, weighty, setPoint, subsOf, asSetPoint}
 use Rattle.surface.specs.declared.evaluation.Evaluation.{Evaluation}
 use Rattle.surface.specs.declared.evaluation.EvaluationAnswer.{EvaluationAnswer}
@@ -21,8 +21,8 @@ use Rattle.soundness.specs.Theorems.{OneOf}
 use Rattle.soundness.specs.EveryMapProof.{evaluation-refusals, question-refusals}
 use Rattle.map_format.specs.Format.{borderAt, editsAt, fileWithdraws, editCount, versionOf, isVersion, editsFrom, lengthRight, headingsRight, checkedFile}
 use Rattle.map_file.specs.Run.{cornerOf, freshMap, fileMap, checkedSetPoint, fileSetPoint}
-use Rattle.map_format.specs.declared.format.FileCheck.{FileCheck}
-use Rattle.map_format.specs.declared.format.FileCheck.the-variants.{Valid, Refused}
+use Rattle.counted_file.specs.declared.FileCheck.{FileCheck}
+use Rattle.counted_file.specs.declared.FileCheck.the-variants.{Valid, Refused}
 use Rattle.value_bytes.specs.Value.{valueBytes}
 use Rattle.gatemap_host.specs.SetPoint.{hostAnswer}
 use Rattle.gatemap_host.specs.CellCall.{hostCell}

@@ -23,7 +23,7 @@ use Rattle.ledger.specs.Ledger.{entered, countsBy, openingsBy}
 use Rattle.ledger.specs.Theorem.{HasLedger}
 use Rattle.map_format.specs.Format.{borderAt, editsAt, fileWithdraws, editCount, Edit, editsFrom, checkedFile}
 use Rattle.map_file.specs.Run.{cornerOf, edited, afterEdits, editAnswers, fileMap, fileAnswers, fileNumbers}
-use Rattle.map_format.specs.declared.format.FileCheck.the-variants.{Valid, Refused}
+use Rattle.counted_file.specs.declared.FileCheck.the-variants.{Valid, Refused}
 use Rattle.report_text.specs.Text.{fileWord, newline, refusedText}
 use Rattle.openings.specs.Openings.{openingsOf}
 use Rattle.report_lines.specs.Lines.{editLines, countsLine, openLines, midLine}

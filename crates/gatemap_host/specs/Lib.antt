@@ -3,3 +3,5 @@ pub mod SetPoint
 pub mod SetPointLaws
 pub mod CellCall
 pub mod CellCallLaws
+pub mod SeasonCall
+pub mod SeasonCallLaws

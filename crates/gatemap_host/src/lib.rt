@@ -1,14 +1,18 @@
-// The calls of a C host: the bytes of a map file, what is asked of its map, and a buffer that receives the answer. include/gatemap_host.h says them in C.
+// The calls of a C host: the bytes of a map file or of a season, what is asked of it, and a buffer that receives the answer. include/gatemap_host.h says them in C.
 ghost use mathlib.Core.Path.{_≡_};
 ghost use lib.ListN.{length};
 ghost use Rattle.gatemap_host.specs.CellCall.{hostCell, hostCellNumber, hostCellBuffer, hostCellTable};
+ghost use Rattle.gatemap_host.specs.SeasonCall.{hostSeason, hostSeasonNumber, hostSeasonBuffer, hostSeasonTable};
 ghost use Rattle.gatemap_host.specs.SetPoint.{hostAnswer, hostNumber, hostBuffer, hostTable};
+use big_endian::put_byte;
 use cell_bytes::write_cell;
 use cells::CellAnswer;
 use control_point::refusal::Refusal;
 use float64::from_bits;
 use map_cell::file_cell;
 use map_set_point::file_set_point;
+use season::SeasonAnswer;
+use season::season_map;
 use surface::evaluation::EvaluationAnswer;
 use value_bytes::write_value;
 
@@ -17,6 +21,9 @@ const VALUE_BYTES: usize = 32;
 
 // The words of a cell and the count of their ones, as they are written.
 const CELL_BYTES: usize = 17;
+
+// A map's number, as it is written.
+const MAP_BYTES: usize = 1;
 
 // The number of a call whose answer is written.
 const DONE: u64 = 0;
@@ -68,5 +75,30 @@ pub extern "C" fn gatemap_cell(file: &[u8], cell: u8, out: &mut [u8]) -> u64
             DONE
         }
         CellAnswer::Refused(refusal) => refusal.number() as u64,
+    }
+}
+
+// The same of a season.
+fn host_season(season: &[u8], minute: u32, room: usize) -> SeasonAnswer
+    ensures { λ r. ⌜ r ≡ hostSeason (now (season .entry)) minute room ⌝ }
+{
+    if room < MAP_BYTES {
+        return SeasonAnswer::Refused(Refusal::Short);
+    }
+    season_map(season, minute)
+}
+
+#[no_mangle]
+pub extern "C" fn gatemap_season(season: &[u8], minute: u32, out: &mut [u8]) -> u64
+    ensures number { λ r. ⌜ r ≡ hostSeasonNumber (now (season .entry)) minute (now (out .entry)) ⌝ }
+    ensures buffer { λ _. ⌜ now (out .exit) ≡ hostSeasonBuffer (now (season .entry)) minute (now (out .entry)) ⌝ }
+    ensures told { λ r. ⌜ r ≡ hostSeasonTable (now (season .entry)) minute (length (now (out .entry))) .number ⌝ }
+{
+    match host_season(season, minute, out.len()) {
+        SeasonAnswer::Is(map) => {
+            put_byte(out, 0, map);
+            DONE
+        }
+        SeasonAnswer::Refused(refusal) => refusal.number() as u64,
     }
 }

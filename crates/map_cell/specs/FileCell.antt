@@ -8,8 +8,8 @@ use Rattle.cells.specs.Table.{cellPointsTable}
 use Rattle.cells.specs.declared.CellAnswer.{CellAnswer}
 use Rattle.cells.specs.declared.CellAnswer.the-variants.{Refused as NoWords}
 use Rattle.map_format.specs.Format.{editCount, checkedFile, whereValid}
-use Rattle.map_format.specs.declared.format.FileCheck.{FileCheck}
-use Rattle.map_format.specs.declared.format.FileCheck.the-variants.{Valid, Refused}
+use Rattle.counted_file.specs.declared.FileCheck.{FileCheck}
+use Rattle.counted_file.specs.declared.FileCheck.the-variants.{Valid, Refused}
 use Rattle.map_file.specs.Run.{fileMap}
 
 abbrev pub checkedCell : Float → List ℕ → ℕ → FileCheck → CellAnswer

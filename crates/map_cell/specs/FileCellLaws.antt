@@ -9,7 +9,7 @@ use Rattle.cells.specs.TableLaws.{cell-points-told}
 use Rattle.cells.specs.declared.CellAnswer.the-variants.{Refused as NoWords}
 use Rattle.map_format.specs.Format.{editCount, checkedFile, whereValid}
 use Rattle.map_format.specs.FormatLaws.{where-valid-told}
-use Rattle.map_format.specs.declared.format.FileCheck.the-variants.{Valid, Refused}
+use Rattle.counted_file.specs.declared.FileCheck.the-variants.{Valid, Refused}
 use Rattle.map_file.specs.Run.{fileMap}
 use Rattle.map_cell.specs.FileCell.{checkedCell, fileCell, fileCellTable}
 

@@ -6,8 +6,8 @@ ghost use Rattle.map_file.specs.Run.{fileMap};
 ghost use Rattle.map_cell.specs.FileCell.{fileCell, fileCellTable};
 use cells::CellAnswer;
 use control_point::small::closeness;
+use counted_file::FileCheck;
 use lent_cell::lent_cell;
-use map_format::format::FileCheck;
 use map_format::format::validate;
 use map_run::run_lent;
 

@@ -19,8 +19,8 @@ use Rattle.surface.specs.Evaluation.{subsOf, asSetPoint}
 use Rattle.surface.specs.declared.evaluation.EvaluationAnswer.{EvaluationAnswer}
 use Rattle.surface.specs.declared.evaluation.EvaluationAnswer.the-variants.{Refused as NotEvaluated}
 use Rattle.map_format.specs.Format.{borderAt, cornersAt, positionBytes, editsAt, fileWithdraws, positionAt, Edit, editsFrom, checkedFile}
-use Rattle.map_format.specs.declared.format.FileCheck.{FileCheck}
-use Rattle.map_format.specs.declared.format.FileCheck.the-variants.{Valid, Refused}
+use Rattle.counted_file.specs.declared.FileCheck.{FileCheck}
+use Rattle.counted_file.specs.declared.FileCheck.the-variants.{Valid, Refused}
 
 -- ---- the map before the edits
 abbrev pub cornerOf : List ℕ → ℕ → Position

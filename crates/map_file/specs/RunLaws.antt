@@ -26,7 +26,7 @@ use Rattle.surface.specs.declared.evaluation.EvaluationAnswer.the-variants.{Ref
 use Rattle.map_format.specs.Format.{borderAt, editsAt, editBytes, fileWithdraws, Edit, editAt, editsFrom, checkedFile}
 use Rattle.map_format.specs.FormatLaws.{edit-after}
 use Rattle.map_file.specs.Run.{cornerOf, freshMap, SameEdits, edited, meshEdited, afterEdits, editAnswers, editNumbers, fileMap, fileNumbers, setPointAt, checkedSetPoint, fileSetPoint}
-use Rattle.map_format.specs.declared.format.FileCheck.the-variants.{Valid, Refused}
+use Rattle.counted_file.specs.declared.FileCheck.the-variants.{Valid, Refused}
 
 -- ---- the map before the edits, by the weight and the corners that were read
 pub fresh-read : (bytes : List ℕ) (map : Tmesh) (weight : Float) (bottomLeft bottomRight topRight topLeft : Position) → map ≡ newTmesh weight bottomLeft bottomRight topRight topLeft

@@ -13,26 +13,23 @@
 --   1        stays
 --   2        is withdrawn
 --   other    the file is refused 13
-use Prim.Native.Nat.{ℕ, zero, suc, _+_, _-_, _/_, _%_}
+use Prim.Native.Nat.{ℕ, zero, suc, _+_}
 use mathlib.Core.Bool.{Bool, true, cond, _&&_}
 use mathlib.Core.List.{List, [], _∷_}
-use lib.Dec.{ltb, leb, eqb}
+use lib.Dec.{ltb, leb}
 use lib.Ieee.{Float}
-use lib.ListN.{length}
-use Rattle.big_endian.specs.BigEndian.{byteAt, numberAt, floatAt}
+use Rattle.big_endian.specs.BigEndian.{byteAt, floatAt}
 use Rattle.control_point.specs.Direction.{directionNumbered}
-use Rattle.control_point.specs.Told.{Told, natural, tells, unless, refusalTold}
+use Rattle.control_point.specs.Told.{Told, natural, tells, unless}
 use Rattle.control_point.specs.declared.refusal.Refusal.the-variants.{Length, Version, Heading}
 use Rattle.control_point.specs.declared.t_mesh_direction.TmeshDirection.{TmeshDirection}
+use Rattle.counted_file.specs.Counted.{itemCount, countedRight}
+use Rattle.counted_file.specs.declared.FileCheck.{FileCheck}
+use Rattle.counted_file.specs.declared.FileCheck.the-variants.{Valid, Refused}
 use Rattle.t_mesh.specs.declared.t_mesh.Position.{Position}
 use Rattle.map_format.specs.declared.format.EditTarget.{EditTarget}
-use Rattle.map_format.specs.declared.format.FileCheck.{FileCheck}
-use Rattle.map_format.specs.declared.format.FileCheck.the-variants.{Valid, Refused}
 
 -- ---- sizes and places
-abbrev pub lengthBytes : ℕ
-lengthBytes = 4
-
 abbrev pub versionAt : ℕ
 versionAt = 4
 
@@ -117,14 +114,11 @@ editsFrom (suc count) bytes at = editAt bytes at ∷ editsFrom count bytes (at +
 -- ---- which files are refused
 -- the edits that a file of this length has room for
 abbrev pub editCount : List ℕ → ℕ
-editCount bytes = (length bytes - editsAt) / editBytes
+editCount = itemCount editsAt editBytes
 
 -- the count is that of the bytes that follow it, and these are the head and 0 to 1,000 whole edits
-unfoldable pub lengthRight : List ℕ → Bool
-lengthRight bytes =
-    leb editsAt (length bytes)
-    && (eqb (lengthBytes + numberAt 4 bytes 0) (length bytes)
-    && (eqb ((length bytes - editsAt) % editBytes) 0 && leb (editCount bytes) mostEdits))
+abbrev pub lengthRight : List ℕ → Bool
+lengthRight = countedRight editsAt editBytes mostEdits
 
 -- every direction is one
 unfoldable pub headingsRight : ℕ → List ℕ → ℕ → Bool
@@ -139,11 +133,6 @@ checkedFile bytes =
     (cond (headingsRight (editCount bytes) bytes editsAt) (Valid (editCount bytes)) (Refused Heading))
     (Refused Version))
     (Refused Length)
-
--- what it tells: the count of edits, or the refusal's number
-abbrev pub fileTold : FileCheck → Told
-fileTold (Valid n) = tells (natural n ∷ [])
-fileTold (Refused refusal) = refusalTold refusal
 
 -- the table of what takes a file: 12, 13, 14, and where it is valid what is told then
 abbrev pub whereValid : List ℕ → Told → Told

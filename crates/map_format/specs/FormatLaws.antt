@@ -1,23 +1,25 @@
--- Laws of the definitions of specs/Format.antt: what stands after the first bytes, what a right length and a valid file tell, and one heading more.
-use Prim.Native.Nat.{ℕ, suc, _+_, _*_, _-_, _%_, _≤_, _<_}
+-- Laws of the definitions of specs/Format.antt: what stands after the first bytes, what a valid file tells, and one heading more.
+use Prim.Native.Nat.{ℕ, suc, _+_, _*_, _-_, _≤_, _<_}
 use mathlib.Core.Path.{_≡_, refl, sym, ap, _∙_}
-use mathlib.Core.Bool.{Bool, true, false, cond, _&&_, true≢false}
+use mathlib.Core.Bool.{Bool, true, false, cond, _&&_}
 use mathlib.Core.List.{List}
 use native.Mathlib.Numerals.{add-one}
-use native.Mathlib.Nat.{add-assoc, div-add-mod'}
+use native.Mathlib.Nat.{add-assoc}
 use native.Mathlib.Omega.{arith}
-use lib.Dec.{ltb, leb, eqb}
+use lib.Dec.{ltb}
 use lib.ListN.{length, drop}
 use lib.Seq.{getD-drop}
-use borrow.Author.Tests.{lt-ltb, le-ltb, leb-true, eqb-true}
-use Rattle.big_endian.specs.BigEndian.{byteAt, numberAt}
+use borrow.Author.Tests.{lt-ltb, le-ltb}
+use Rattle.big_endian.specs.BigEndian.{byteAt}
 use Rattle.big_endian.specs.BigEndianLaws.{number-after}
 use Rattle.control_point.specs.Told.{Told, unless, refusalTold}
 use Rattle.control_point.specs.declared.refusal.Refusal.{Refusal}
 use Rattle.control_point.specs.declared.refusal.Refusal.the-variants.{Length, Version, Heading}
-use Rattle.map_format.specs.Format.{lengthBytes, editsAt, editBytes, mostEdits, directionIn, versionOf, isVersion, positionAt, editAt, targetOf, editCount, lengthRight, headingsRight, checkedFile, fileTold, whereValid, fileTable}
-use Rattle.map_format.specs.declared.format.FileCheck.{FileCheck}
-use Rattle.map_format.specs.declared.format.FileCheck.the-variants.{Valid, Refused}
+use Rattle.counted_file.specs.Counted.{fileTold}
+use Rattle.counted_file.specs.CountedLaws.{length-tells, valid-refused}
+use Rattle.counted_file.specs.declared.FileCheck.{FileCheck}
+use Rattle.counted_file.specs.declared.FileCheck.the-variants.{Valid, Refused}
+use Rattle.map_format.specs.Format.{editsAt, editBytes, mostEdits, directionIn, versionOf, isVersion, positionAt, editAt, targetOf, editCount, lengthRight, headingsRight, checkedFile, whereValid, fileTable}
 
 -- ---- what stands after the first bytes stands in all bytes, that many places on
 pub position-after : (bytes : List ℕ) (count at : ℕ) → positionAt (drop count bytes) at ≡ positionAt bytes (count + at)
@@ -29,44 +31,22 @@ edit-after bytes count at = simp (number-after, getD-drop, add-assoc)
 pub target-after : (bytes : List ℕ) (count : ℕ) → targetOf (editAt (drop count bytes) 0) ≡ targetOf (editAt bytes count)
 target-after bytes count = ap targetOf (edit-after bytes count 0 ∙ ap (editAt bytes) (omega arith))
 
--- ---- a right length
--- of four tests that hold, the first and the last two
-held : (a b c d : Bool) → (a && (b && (c && d))) ≡ true → (a ≡ true) × (c ≡ true) × (d ≡ true)
-held true true true d all = (refl, refl, all)
-held true true false d all = absurd (true≢false (sym all))
-held true false c d all = absurd (true≢false (sym all))
-held false b c d all = absurd (true≢false (sym all))
-
--- the head is whole, and the rest are at most 1,000 whole edits
-pub length-tells : (bytes : List ℕ) → lengthRight bytes ≡ true → (editsAt ≤ length bytes) × (editsAt + editCount bytes * editBytes ≡ length bytes) × (editCount bytes ≤ mostEdits)
-unfolding lengthRight
-length-tells bytes right =
-    let edits = length bytes - editsAt in
-    let tests = held (leb editsAt (length bytes)) (eqb (lengthBytes + numberAt 4 bytes 0) (length bytes)) (eqb (edits % editBytes) 0) (leb (editCount bytes) mostEdits) right in
-    let head = leb-true editsAt (length bytes) (tests .0) in
-    let whole = eqb-true (edits % editBytes) 0 (tests .1) in
-    (head, omega (arith, head, whole, div-add-mod' edits editBytes), leb-true (editCount bytes) mostEdits (tests .2))
-
 -- ---- a valid file
--- it is not a refused one
-never : (refusal : Refusal) (n : ℕ) → Refused refusal ≡ Valid n → ⊥
-never refusal n same = let z : _≡_ {A = ℕ} 0 1 = cc in omega arith
-
 -- where three tests in a row make it valid, the first held and the count is that of the last
 valid-right : (long second third : Bool) (other last : Refusal) (count n : ℕ)
     → cond long (cond second (cond third (Valid count) (Refused last)) (Refused other)) (Refused Length) ≡ Valid n → (long ≡ true) × (count ≡ n)
 valid-right true true true other last count n valid = (refl, cc)
-valid-right true true false other last count n valid = absurd (never last n valid)
-valid-right true false third other last count n valid = absurd (never other n valid)
-valid-right false second third other last count n valid = absurd (never Length n valid)
+valid-right true true false other last count n valid = absurd (valid-refused last n valid)
+valid-right true false third other last count n valid = absurd (valid-refused other n valid)
+valid-right false second third other last count n valid = absurd (valid-refused Length n valid)
 
 -- its edits are all that follows the head, and at most 1,000
 pub valid-tells : (bytes : List ℕ) (n : ℕ) → checkedFile bytes ≡ Valid n → (editsAt + n * editBytes ≡ length bytes) × (n ≤ mostEdits)
 unfolding checkedFile
 valid-tells bytes n valid =
     let right = valid-right (lengthRight bytes) (isVersion (versionOf bytes)) (headingsRight (editCount bytes) bytes editsAt) Version Heading (editCount bytes) n valid in
-    let tells = length-tells bytes (right .0) in
-    (ap (λ (count : ℕ). editsAt + count * editBytes) (sym (right .1)) ∙ tells .1, omega (arith, tells .2, right .1))
+    let tells = length-tells editsAt editBytes mostEdits bytes (right .0) in
+    (ap (λ (count : ℕ). editsAt + count * editBytes) (sym (right .1)) ∙ tells .filled, omega (arith, tells .few, right .1))
 
 -- ---- one heading more
 heading-first : (count : ℕ) (bytes : List ℕ) (at : ℕ) → 0 < count

@@ -1,16 +1,16 @@
 // What the bytes of a map file say, and which files are refused. The places and sizes are those of docs/FORMATS.md.
 ghost use mathlib.Core.Path.{_≡_};
 ghost use Prim.Native.Nat.{_≤_};
-ghost use Rattle.map_format.specs.Format.{editsAt, mostEdits, versionOf, isVersion, fileWithdraws, positionAt, editAt, targetOf, lengthRight, headingsRight, checkedFile, fileTold, fileTable};
+ghost use Rattle.counted_file.specs.Counted.{fileTold};
+ghost use Rattle.map_format.specs.Format.{editsAt, mostEdits, versionOf, isVersion, fileWithdraws, positionAt, editAt, targetOf, headingsRight, checkedFile, fileTable};
 use big_endian::after;
 use big_endian::byte_at;
 use big_endian::float_at;
-use big_endian::length_at;
 use control_point::refusal::Refusal;
 use control_point::t_mesh_direction::TmeshDirection;
+use counted_file::FileCheck;
+use counted_file::counted_right;
 use t_mesh::t_mesh::Position;
-
-const LENGTH_BYTES: usize = 4;
 
 const VERSION_AT: usize = 4;
 
@@ -47,12 +47,6 @@ pub struct EditTarget {
     pub point: u8,
     pub direction: TmeshDirection,
     pub ratio: f64,
-}
-
-pub enum FileCheck {
-    // The count of edits.
-    Valid(usize),
-    Refused(Refusal),
 }
 
 fn version_of(file: &[u8]) -> u8
@@ -108,24 +102,6 @@ pub fn edit_position(file: &[u8], at: usize) -> Position
     position_at(place, POSITION_IN)
 }
 
-// Whether the count at the start is that of the bytes that follow, and these are the head and up to 1,000 whole edits.
-fn length_right(bytes: &[u8]) -> bool
-    ensures { λ r. ⌜ r ≡ lengthRight (now (bytes .entry)) ⌝ }
-{
-    let length = bytes.len();
-    if length < EDITS_AT {
-        return false;
-    }
-    if LENGTH_BYTES + length_at(bytes, 0) != length {
-        return false;
-    }
-    let edits = length - EDITS_AT;
-    if edits % EDIT_BYTES != 0 {
-        return false;
-    }
-    edits / EDIT_BYTES <= MOST_EDITS
-}
-
 // Whether the direction of each of so many edits is one.
 fn headings_right(bytes: &[u8], count: usize) -> bool
     requires { ⌜ count ≤ mostEdits ⌝ }
@@ -148,7 +124,7 @@ pub fn validate(file: &[u8]) -> FileCheck
     ensures is { λ r. ⌜ r ≡ checkedFile (now (file .entry)) ⌝ }
     ensures told { λ r. ⌜ fileTold r ≡ fileTable (now (file .entry)) ⌝ }
 {
-    if !length_right(file) {
+    if !counted_right(file, EDITS_AT, EDIT_BYTES, MOST_EDITS) {
         return FileCheck::Refused(Refusal::Length);
     }
     if !is_version(version_of(file)) {

@@ -21,7 +21,7 @@ use Rattle.control_point.specs.declared.t_mesh_control_point.TmeshControlPoint.
 use Rattle.store.specs.Store.{storeSides, storePoint, withSideAt, linked, done, refused, settled, opened, weighted, coordinated, allBorders, makeLoose, connectPoints, removeConnection, removeEdgeCondition, setEdgeConWeight, setKnotCoordinates}
 use Rattle.store.specs.declared.store.Changed.{Changed}
 use Rattle.store.specs.declared.store.Store.{Store}
-use Rattle.mirror.specs.BoolLaws.{both-ways, cond-case}
+use Rattle.counting.specs.BoolLaws.{both-ways, cond-case}
 use Rattle.mirror.specs.Calls.{Call, make-loose, connect, remove-connection, remove-edge-condition, set-edge-con-weight, set-knot-coordinates, navigate-until-con, read-side, read-point, callStore, callNumber}
 use Rattle.mirror.specs.Mirror.{Sound}
 use Rattle.mirror.specs.MirrorLaws.{done-joining, sound-new, sound-point, sound-side, sound-linked, sound-cut}

@@ -1,7 +1,6 @@
 pub mod Mirror
 pub mod Calls
 pub mod Theorems
-pub mod BoolLaws
 pub mod MirrorLaws
 pub mod CallLaws
 pub mod EveryListMirroredProof

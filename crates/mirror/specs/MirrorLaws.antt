@@ -25,7 +25,7 @@ use Rattle.control_point.specs.declared.t_mesh_control_point.TmeshControlPoint.
 use Rattle.store.specs.TablesLaws.{refused-not}
 use Rattle.store.specs.Store.{storeSides, storePoint, withPoint, withSideAt, withNew, linked}
 use Rattle.store.specs.declared.store.Store.{Store}
-use Rattle.mirror.specs.BoolLaws.{both-ways, cond-case, and-both, or-case, or-none}
+use Rattle.counting.specs.BoolLaws.{both-ways, cond-case, and-both, or-case, or-none}
 use Rattle.mirror.specs.Mirror.{MirrorOf, Mirrored, Sound, Joining}
 use Rattle.store.specs.StoreLaws.{side-read, room-kept, sides-new, sides-point, sides-side, sides-linked}
 

@@ -14,7 +14,7 @@ use Rattle.control_point.specs.declared.t_mesh_control_point.Side.{Side}
 use Rattle.control_point.specs.declared.t_mesh_control_point.Side.the-variants.{Link, Border, Opening}
 use Rattle.navigation.specs.declared.walk.Walk.{Walk}
 use Rattle.navigation.specs.declared.walk.Walk.the-variants.{Reached, Refused}
-use Rattle.mirror.specs.BoolLaws.{cond-case}
+use Rattle.counting.specs.BoolLaws.{cond-case}
 use Rattle.mirror.specs.Theorems.{Moved, first, next, Walked, Ringed, MovesAreSteps, RingIsNeeded}
 
 module _ (sides : Sides) (made start : ℕ) (travel watch : TmeshDirection) where

@@ -15,7 +15,7 @@ use Rattle.counting.specs.CountLaws.{count-few}
 use Rattle.census.specs.Census.{hasSide, countsOf}
 use Rattle.census.specs.declared.census.Counts.{Counts}
 use Rattle.map_format.specs.Format.{checkedFile}
-use Rattle.map_format.specs.declared.format.FileCheck.{FileCheck}
+use Rattle.counted_file.specs.declared.FileCheck.{FileCheck}
 use Rattle.report_text.specs.Put.{Put, Fits}
 use Rattle.report_text.specs.Text.{printedBelow}
 use Rattle.report.specs.Report.{checkedReport, reportOf}

@@ -10,8 +10,8 @@ use Rattle.t_mesh.specs.Tmesh.{storeOf}
 use Rattle.t_mesh.specs.declared.t_mesh.Tmesh.{Tmesh}
 use Rattle.census.specs.Census.{countsOf}
 use Rattle.map_format.specs.Format.{checkedFile}
-use Rattle.map_format.specs.declared.format.FileCheck.{FileCheck}
-use Rattle.map_format.specs.declared.format.FileCheck.the-variants.{Valid, Refused}
+use Rattle.counted_file.specs.declared.FileCheck.{FileCheck}
+use Rattle.counted_file.specs.declared.FileCheck.the-variants.{Valid, Refused}
 use Rattle.map_file.specs.Run.{fileMap, fileNumbers, setPointAt}
 use Rattle.openings.specs.Openings.{openingsOf}
 use Rattle.report_text.specs.Text.{fileWord, newline, refusedText}

@@ -12,8 +12,8 @@ use Rattle.census.specs.Census.{countsOf}
 use Rattle.map_format.specs.Format.{checkedFile}
 use Rattle.map_format.specs.FormatLaws.{valid-tells}
 use Rattle.map_file.specs.Run.{fileMap, fileNumbers, setPointAt}
-use Rattle.map_format.specs.declared.format.FileCheck.{FileCheck}
-use Rattle.map_format.specs.declared.format.FileCheck.the-variants.{Valid, Refused}
+use Rattle.counted_file.specs.declared.FileCheck.{FileCheck}
+use Rattle.counted_file.specs.declared.FileCheck.the-variants.{Valid, Refused}
 use Rattle.openings.specs.Openings.{openingsOf}
 use Rattle.openings.specs.OpeningsProof.{few-openings}
 use Rattle.report_text.specs.Put.{mostBytes}

@@ -8,7 +8,7 @@ ghost use Rattle.report_text.specs.Put.{Put, Fits};
 ghost use Rattle.report.specs.Report.{mapReport, fileRefused, validReport, reportOf};
 use census::counts::counts;
 use control_point::refusal::Refusal;
-use map_format::format::FileCheck;
+use counted_file::FileCheck;
 use map_format::format::MOST_EDITS;
 use map_format::format::validate;
 use map_run::run_edits;

@@ -10,7 +10,7 @@ use Rattle.control_point.specs.declared.refusal.Outcome.the-variants.{Done, Ref
 use Rattle.control_point.specs.declared.t_mesh_direction.TmeshDirection.{TmeshDirection}
 use Rattle.control_point.specs.declared.t_mesh_control_point.Side.{Side}
 use Rattle.control_point.specs.declared.t_mesh_control_point.Side.the-variants.{Link, Border, Opening}
-use Rattle.mirror.specs.BoolLaws.{cond-case}
+use Rattle.counting.specs.BoolLaws.{cond-case}
 use Rattle.mirror.specs.Calls.{Call, make-loose, connect, remove-connection, remove-edge-condition, set-edge-con-weight, set-knot-coordinates, navigate-until-con, read-side, read-point, callStore}
 use Rattle.store.specs.Store.{storeSides, storePoint, linked, settled, opened, weighted, allBorders, makeLoose, connectPoints, removeConnection, removeEdgeCondition, setEdgeConWeight, setKnotCoordinates}
 use Rattle.store.specs.declared.store.Changed.{Changed}

@@ -12,7 +12,7 @@ use Rattle.surface.specs.Evaluation.{subsOf}
 use Rattle.surface.specs.declared.evaluation.EvaluationAnswer.the-variants.{Refused as NoValue}
 use Rattle.cells.specs.Cells.{cellPoints}
 use Rattle.cells.specs.declared.CellAnswer.the-variants.{Refused as NoWords}
-use Rattle.mirror.specs.BoolLaws.{or-case}
+use Rattle.counting.specs.BoolLaws.{or-case}
 use Rattle.t_mesh.specs.Tmesh.{newTmesh}
 use Rattle.t_mesh.specs.declared.t_mesh.Tmesh.{Tmesh}
 use Rattle.soundness.specs.MapCalls.{MapCall, afterCall, mapAfterAll}

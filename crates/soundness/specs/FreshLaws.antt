@@ -12,7 +12,7 @@ use Rattle.control_point.specs.declared.t_mesh_direction.TmeshDirection.the-var
 use Rattle.control_point.specs.declared.t_mesh_control_point.Side.{Side}
 use Rattle.control_point.specs.declared.t_mesh_control_point.Side.the-variants.{Link, Border, Opening}
 use Rattle.store.specs.Store.{storeSides}
-use Rattle.mirror.specs.BoolLaws.{both-ways}
+use Rattle.counting.specs.BoolLaws.{both-ways}
 use Rattle.mirror.specs.Mirror.{MirrorOf, Mirrored}
 use Rattle.t_mesh.specs.Tmesh.{cornerStore, newTmesh}
 use Rattle.t_mesh.specs.declared.t_mesh.Position.{Position}

@@ -21,7 +21,7 @@ use Rattle.control_point.specs.declared.t_mesh_control_point.Side.{Side}
 use Rattle.control_point.specs.declared.t_mesh_control_point.Side.the-variants.{Link, Border, Opening}
 use Rattle.store.specs.Store.{storeSides, readSide}
 use Rattle.store.specs.declared.store.Store.{Store}
-use Rattle.mirror.specs.BoolLaws.{both-ways, cond-case}
+use Rattle.counting.specs.BoolLaws.{both-ways, cond-case}
 use Rattle.mirror.specs.Mirror.{MirrorOf, Sound}
 use Rattle.insertion.specs.Insert.{isRefused, inUnit, checkedIntervals, checkedFacing, checkedSide, checked, placed, sought, tears, countedAnswer, firstSide, withFirst, secondSide, sided, passed, insertPoint}
 use Rattle.insertion.specs.InsertLaws.{MayJoin, first-joins, second-joins}

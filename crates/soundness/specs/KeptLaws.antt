@@ -20,7 +20,7 @@ use Rattle.insertion.specs.declared.insertion.InsertAnswer.{InsertAnswer}
 use Rattle.insertion.specs.declared.insertion.InsertAnswer.the-variants.{Done as Added, Torn, Refused as NotAdded}
 use Rattle.knot_vectors.specs.Knots.{AllKnots, all, none, allKnots, keeping, generateKnotVectors}
 use Rattle.knot_vectors.specs.declared.knots.Generated.{Generated}
-use Rattle.mirror.specs.BoolLaws.{cond-case}
+use Rattle.counting.specs.BoolLaws.{cond-case}
 use Rattle.ray.specs.Knots.{afterRay, knotsAt, pointKnotVectors}
 use Rattle.ray.specs.Ray.{Ray, entries, refused, rayOf}
 use Rattle.ray.specs.declared.knots.KnotsAnswer.{KnotsAnswer}

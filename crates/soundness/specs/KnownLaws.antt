@@ -20,7 +20,7 @@ use Rattle.control_point.specs.declared.t_mesh_control_point.Side.{Side}
 use Rattle.control_point.specs.declared.t_mesh_control_point.Side.the-variants.{Link, Border, Opening}
 use Rattle.navigation.specs.declared.walk.Walk.{Walk}
 use Rattle.navigation.specs.declared.walk.Walk.the-variants.{Reached, Refused as NoWalk}
-use Rattle.mirror.specs.BoolLaws.{cond-case, or-case}
+use Rattle.counting.specs.BoolLaws.{cond-case, or-case}
 use Rattle.mirror.specs.Mirror.{Mirrored}
 use Rattle.search.specs.Search.{afterConnecting, judgeAt, concluded, moveOver, seekFrom, walked, findInferredConnection}
 use Rattle.search.specs.declared.search.Found.{Found}

@@ -19,7 +19,7 @@ use Rattle.navigation.specs.declared.walk.Walk.{Walk}
 use Rattle.navigation.specs.declared.walk.Walk.the-variants.{Reached, Refused as NoWalk}
 use Rattle.store.specs.Store.{storeSides}
 use Rattle.store.specs.declared.store.Store.{Store}
-use Rattle.mirror.specs.BoolLaws.{cond-case}
+use Rattle.counting.specs.BoolLaws.{cond-case}
 use Rattle.mirror.specs.Mirror.{Mirrored, Sound}
 use Rattle.float64.specs.Literals.{zeroLiteral}
 use Rattle.ray_approach.specs.Approach.{approachRound, approachIn, approachOf}

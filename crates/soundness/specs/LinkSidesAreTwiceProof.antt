@@ -17,7 +17,7 @@ use Rattle.control_point.specs.declared.t_mesh_control_point.Side.{Side}
 use Rattle.control_point.specs.declared.t_mesh_control_point.Side.the-variants.{Link, Border, Opening}
 use Rattle.store.specs.Store.{storeSides}
 use Rattle.store.specs.declared.store.Store.{Store}
-use Rattle.mirror.specs.BoolLaws.{both-ways, and-both}
+use Rattle.counting.specs.BoolLaws.{both-ways, and-both}
 use Rattle.mirror.specs.Mirror.{Sound}
 use Rattle.counting.specs.Counting.{countBelow}
 use Rattle.counting.specs.CountLaws.{count-same, count-nothing, count-one}

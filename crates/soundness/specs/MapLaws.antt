@@ -13,7 +13,7 @@ use Rattle.control_point.specs.declared.refusal.Outcome.{Outcome}
 use Rattle.control_point.specs.declared.refusal.Outcome.the-variants.{Done, Refused}
 use Rattle.control_point.specs.declared.t_mesh_direction.TmeshDirection.{TmeshDirection}
 use Rattle.store.specs.declared.store.Store.{Store}
-use Rattle.mirror.specs.BoolLaws.{cond-case, and-both, or-case}
+use Rattle.counting.specs.BoolLaws.{cond-case, and-both, or-case}
 use Rattle.mirror.specs.Mirror.{Sound}
 use Rattle.insertion.specs.Insert.{isDone, isRefused, insertPoint}
 use Rattle.insertion.specs.Withdrawal.{isWithdrawn}

@@ -22,7 +22,7 @@ use Rattle.store.specs.Store.{storeSides, storePoint, linked, settled, opened, 
 use Rattle.store.specs.StoreLaws.{side-read}
 use Rattle.store.specs.declared.store.Changed.{Changed}
 use Rattle.store.specs.declared.store.Store.{Store}
-use Rattle.mirror.specs.BoolLaws.{cond-case, and-both}
+use Rattle.counting.specs.BoolLaws.{cond-case, and-both}
 use Rattle.mirror.specs.Calls.{Call as Direct, make-loose, connect, remove-connection, remove-edge-condition, set-edge-con-weight, set-knot-coordinates, navigate-until-con, read-side, read-point, callNumber}
 use Rattle.mirror.specs.Mirror.{Sound}
 use Rattle.insertion.specs.Insert.{answerNumber}

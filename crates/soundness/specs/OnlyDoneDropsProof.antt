@@ -18,7 +18,7 @@ use Rattle.cells.specs.Cells.{cellPoints}
 use Rattle.calls.specs.Calls.{insertion, evaluation, question, pulling}
 use Rattle.calls.specs.PullingLaws.{pulled-case}
 use Rattle.calls.specs.WithdrawalLaws.{by-either-rule}
-use Rattle.mirror.specs.BoolLaws.{both-ways, cond-case}
+use Rattle.counting.specs.BoolLaws.{both-ways, cond-case}
 use Rattle.soundness.specs.MapCalls.{entry, generate-knot-vectors, point-knot-vectors, cast-ray, direct}
 use Rattle.soundness.specs.Theorems.{OnlyDoneDrops}
 

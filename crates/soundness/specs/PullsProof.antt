@@ -20,7 +20,7 @@ use Rattle.control_point.specs.declared.refusal.Outcome.the-variants.{Done}
 use Rattle.control_point.specs.declared.t_mesh_direction.TmeshDirection.{TmeshDirection}
 use Rattle.ray.specs.declared.knots.PointKnots.{PointKnots}
 use Rattle.store.specs.declared.store.Store.{Store}
-use Rattle.mirror.specs.BoolLaws.{cond-case, and-both}
+use Rattle.counting.specs.BoolLaws.{cond-case, and-both}
 use Rattle.insertion.specs.Insert.{isRefused, insertPoint}
 use Rattle.insertion.specs.Withdrawal.{isWithdrawn}
 use Rattle.insertion.specs.declared.insertion.InsertAnswer.{InsertAnswer}

@@ -6,7 +6,7 @@ use Rattle.control_point.specs.Told.{outcomeNumber}
 use Rattle.control_point.specs.declared.refusal.Outcome.{Outcome}
 use Rattle.control_point.specs.declared.refusal.Outcome.the-variants.{Done, Refused}
 use Rattle.store.specs.declared.store.Store.{Store}
-use Rattle.mirror.specs.BoolLaws.{cond-case}
+use Rattle.counting.specs.BoolLaws.{cond-case}
 use Rattle.mirror.specs.RefusedUnchangedProof.{refused-unchanged}
 use Rattle.insertion.specs.Insert.{answerNumber, insertPoint}
 use Rattle.insertion.specs.Withdrawal.{isWithdrawn, unlessWithdrawn}

@@ -6,10 +6,12 @@ use mathlib.Core.List.{List}
 use native.Mathlib.Omega.{arith}
 use borrow.Author.Needs.{needs}
 use borrow.Author.Tests.{not-true, not-false}
+use Rattle.counted_file.specs.Counted.{fileTold}
+use Rattle.counted_file.specs.CountedLaws.{length-tells}
 use Rattle.control_point.specs.ToldLaws.{beside}
-use Rattle.map_format.specs.Format.{versionOf, isVersion, lengthRight, checkedFile, fileTold, fileTable}
-use Rattle.map_format.specs.FormatLaws.{length-tells, file-told}
-use Rattle.map_format.specs.declared.format.FileCheck.{FileCheck}
+use Rattle.map_format.specs.Format.{editsAt, editBytes, mostEdits, versionOf, isVersion, lengthRight, checkedFile, fileTable}
+use Rattle.map_format.specs.FormatLaws.{file-told}
+use Rattle.counted_file.specs.declared.FileCheck.{FileCheck}
 use Rattle.map_format.proofs.format.validate.Statement.{statement}
 use Rattle.map_format.proofs.format.validate.Tie as tie
 
@@ -17,16 +19,16 @@ use Rattle.map_format.proofs.format.validate.Tie as tie
 told : (bytes : List ℕ) (r : FileCheck) → r ≡ checkedFile bytes → (r ≡ checkedFile bytes) × (fileTold r ≡ fileTable bytes)
 told bytes = beside fileTold (checkedFile bytes) (fileTable bytes) (file-told bytes)
 
-length-right-requires : tie.Need-length-right-requires
-length-right-requires c κs = search needs
+counted-right-requires : tie.Need-counted-right-requires
+counted-right-requires c κs = search needs
 
 returns : tie.Need-returns
 unfolding checkedFile
-returns c = told _ _ (rw (sym (c .before .length-right .ensures) ∙ not-true _ (c .if1 .taken)))
+returns c = told _ _ (rw (sym (c .before .counted-right .ensures) ∙ not-true _ (c .if1 .taken)))
 
 -- past the test of the length
 long : (c : tie.Else1) → lengthRight (c .before .before .before .args .file .now) ≡ true
-long c = sym (c .before .length-right .ensures) ∙ not-false _ (c .if1 .left)
+long c = sym (c .before .counted-right .ensures) ∙ not-false _ (c .if1 .left)
 
 version-of-requires : tie.Need-version-of-requires
 version-of-requires c κs = search needs
@@ -47,10 +49,10 @@ versioned : (c : tie.Else2) → isVersion (versionOf (c .before .before .before 
 versioned c = version-test (c .before) ∙ not-false _ (c .if2 .left)
 
 sub-count : tie.Need-sub-count
-sub-count c = omega (arith, length-tells _ (long (c .before .before .before)) .0)
+sub-count c = omega (arith, length-tells editsAt editBytes mostEdits _ (long (c .before .before .before)) .headed)
 
 headings-right-requires : tie.Need-headings-right-requires
-headings-right-requires c κs = length-tells _ (long (c .before .before .before)) .2
+headings-right-requires c κs = length-tells editsAt editBytes mostEdits _ (long (c .before .before .before)) .few
 
 returns-3 : tie.Need-returns-3
 unfolding checkedFile
@@ -64,7 +66,7 @@ pub validate-spec : {M : Type 1} → statement M
 validate-spec =
     tie.close
     (tie.spec
-    length-right-requires
+    counted-right-requires
     returns
     version-of-requires
     is-version-requires

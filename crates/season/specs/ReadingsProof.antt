@@ -1,0 +1,113 @@
+-- The readings: where every closing minute has 32 bits, the test of all windows is what code decides of them, and that is computed.
+use Prim.Native.Nat.{ℕ, zero, suc, _^_, _≤_, _<_}
+use mathlib.Core.Path.{_≡_, refl, sym, ap, _∙_}
+use mathlib.Core.Bool.{Bool, true, false, not, cond, _||_}
+use mathlib.Core.List.{List, [], _∷_}
+use native.Mathlib.Omega.{arith}
+use lib.Dec.{ltb}
+use borrow.Author.Tests.{ltb-false}
+use Rattle.big_endian.specs.BigEndian.{numberAt}
+use Rattle.big_endian.specs.Written.{bytesOf}
+use Rattle.control_point.specs.declared.refusal.Refusal.the-variants.{Length, Version, Clash, Shut}
+use Rattle.counted_file.specs.Counted.{countedRight}
+use Rattle.counted_file.specs.declared.FileCheck.{FileCheck}
+use Rattle.counted_file.specs.declared.FileCheck.the-variants.{Valid, Refused as Invalid}
+use Rattle.counting.specs.BoolLaws.{both-ways}
+use Rattle.counting.specs.Counting.{someBelow, lastBelow}
+use Rattle.counting.specs.SomeLaws.{some-shows, some-same}
+use Rattle.season_window.specs.Decision.{common, decided}
+use Rattle.season_window.specs.DecisionLaws.{decided-right, decided-together}
+use Rattle.season_window.specs.Window.{holdsAt, canHold, holdTogether}
+use Rattle.season_window.specs.declared.Window.{Window}
+use Rattle.season.specs.Readings.{window, seasonOf, frost, SeasonReadings}
+use Rattle.season.specs.Season.{windowOf, windowCount, seasonLengthRight, daysWrong, seasonVersionRight, holdsWithOne, clashes, checkedSeason, mapOf, mapAmong, seasonMap}
+use Rattle.season.specs.declared.SeasonAnswer.{SeasonAnswer}
+use Rattle.season.specs.declared.SeasonAnswer.the-variants.{Is, Refused}
+
+-- ---- what code decides
+abbrev decidedAt : List ℕ → ℕ → Bool
+decidedAt season i = not (decided (windowOf season i)) || someBelow i (λ k. decided (common (windowOf season i) (windowOf season k)))
+
+-- every closing minute has 32 bits
+abbrev Closed : List ℕ → ℕ → Type 0
+Closed season n = (i : ℕ) → i < n → windowOf season i .closing ≤ 2 ^ 32
+
+clashes-decided : (season : List ℕ) (n : ℕ) → Closed season n → someBelow n (decidedAt season) ≡ clashes season n
+clashes-decided season n closed = some-same n (decidedAt season) (λ i. not (canHold (windowOf season i)) || holdsWithOne season i (windowOf season i)) one
+  where
+    one : (i : ℕ) → i < n → decidedAt season i ≡ (not (canHold (windowOf season i)) || holdsWithOne season i (windowOf season i))
+    one i below =
+        let w = windowOf season i in
+        ap (λ (can : Bool). not can || someBelow i (λ k. decided (common w (windowOf season k)))) (decided-right w (closed i below))
+        ∙ ap (λ (meets : Bool). not (canHold w) || meets)
+        (some-same i (λ k. decided (common w (windowOf season k))) (λ k. holdTogether w (windowOf season k)) (λ k h. decided-together w (windowOf season k) (closed i below)))
+
+-- the check, with what code decides in place of the test of all windows
+unfoldable decidedSeason : List ℕ → FileCheck
+decidedSeason season =
+    cond (seasonLengthRight season)
+    (cond (not (daysWrong season (windowCount season)))
+    (cond (seasonVersionRight season)
+    (cond (not (someBelow (windowCount season) (decidedAt season))) (Valid (windowCount season)) (Invalid Clash))
+    (Invalid Version))
+    (Invalid Length))
+    (Invalid Length)
+
+season-decided : (season : List ℕ) → Closed season (windowCount season) → decidedSeason season ≡ checkedSeason season
+unfolding decidedSeason checkedSeason
+season-decided season closed =
+    ap
+    (λ (clash : Bool).
+    cond (seasonLengthRight season)
+    (cond (not (daysWrong season (windowCount season)))
+    (cond (seasonVersionRight season)
+    (cond (not clash) (Valid (windowCount season)) (Invalid Clash))
+    (Invalid Version))
+    (Invalid Length))
+    (Invalid Length))
+    (clashes-decided season (windowCount season) closed)
+
+closed-by : (season : List ℕ) (n : ℕ) → someBelow n (λ i. ltb (2 ^ 32) (windowOf season i .closing)) ≡ false → Closed season n
+closed-by season n none i below =
+    same-none (ltb (2 ^ 32) (windowOf season i .closing)) refl
+  where
+    same-none : (over : Bool) → ltb (2 ^ 32) (windowOf season i .closing) ≡ over → windowOf season i .closing ≤ 2 ^ 32
+    same-none true over = both-ways (someBelow n (λ k. ltb (2 ^ 32) (windowOf season k .closing))) (some-shows n (λ k. ltb (2 ^ 32) (windowOf season k .closing)) i below over) none
+    same-none false over = ltb-false (2 ^ 32) (windowOf season i .closing) over
+
+-- a check that is computed
+read : (season : List ℕ) (check : FileCheck) → someBelow (windowCount season) (λ i. ltb (2 ^ 32) (windowOf season i .closing)) ≡ false → decidedSeason season ≡ check → checkedSeason season ≡ check
+read season check closed is = sym (season-decided season (closed-by season (windowCount season) closed)) ∙ is
+
+frost-accepted : checkedSeason frost ≡ Valid 2
+unfolding decidedSeason countedRight common windowOf numberAt bytesOf someBelow
+frost-accepted = read frost (Valid 2) refl refl
+
+-- the answer of the first season at a minute
+at : (m : ℕ) (answer : SeasonAnswer) → mapAmong frost m 2 ≡ answer → seasonMap frost m ≡ answer
+at m answer is = ap (mapOf frost m) frost-accepted ∙ is
+
+pub season-readings : SeasonReadings
+unfolding decidedSeason countedRight common windowOf numberAt bytesOf someBelow lastBelow holdsAt
+season-readings =
+    record {
+      accepted = frost-accepted;
+      other-order = read _ (Valid 2) refl refl;
+      opened = at 0 (Is 0) refl;
+      not-closed = at 43199 (Is 0) refl;
+      night = at 43559 (Refused Shut) refl;
+      morning = at 43560 (Is 1) refl;
+      evening = at 44519 (Is 1) refl;
+      late = at 44520 (Refused Shut) refl;
+      last-minute = at 4294967295 (Refused Shut) refl;
+      none = read _ (Valid 0) refl refl;
+      none-shut = ap (mapOf (seasonOf 1 []) 0) (read (seasonOf 1 []) (Valid 0) refl refl) ∙ refl;
+      one-minute = read _ (Invalid Clash) refl refl;
+      one-minute-back = read _ (Invalid Clash) refl refl;
+      by-day = read _ (Valid 2) refl refl;
+      no-part = read _ (Invalid Clash) refl refl;
+      missed = read _ (Invalid Clash) refl refl;
+      no-span = read _ (Invalid Clash) refl refl;
+      past-day = read _ (Invalid Length) refl refl;
+      version = read _ (Invalid Version) refl refl;
+    }

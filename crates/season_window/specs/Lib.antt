@@ -1,0 +1,5 @@
+pub mod Window
+pub mod Decision
+pub mod Theorems
+pub mod DecisionLaws
+pub mod TheoremsProof
