@@ -49,6 +49,7 @@ unsafe extern "C" {
     fn bench_bases(edits: *const u8, length: usize, repeats: u64) -> u64;
     fn gatemap_set_point(file: *const u8, length: usize, s: u64, t: u64, out: *mut u8, room: usize) -> u64;
     fn gatemap_cell(file: *const u8, length: usize, cell: u8, out: *mut u8, room: usize) -> u64;
+    fn gatemap_season(season: *const u8, length: usize, minute: u32, out: *mut u8, room: usize) -> u64;
 }
 
 pub struct Edit {
@@ -62,6 +63,7 @@ const CORNERS: [[f64; 3]; 4] = [[0.0, 0.0, 0.0], [1.0, 0.0, 0.0], [1.0, 1.0, 1.0
 const BORDER: f64 = 1.0;
 const MOST_POINTS: usize = 128;
 const FILE_EDITS: usize = 1000;
+const DAY_MINUTES: u32 = 1440;
 
 /// The edits as the host reads them.
 fn bytes(edits: &[Edit]) -> Vec<u8> {
@@ -80,6 +82,11 @@ fn with_pull(edits: &[u8], pull: f64) -> Vec<u8> {
     [edits, &pull.to_bits().to_be_bytes()].concat()
 }
 
+/// A file: the count of what follows, and that.
+fn counted(body: &[u8]) -> Vec<u8> {
+    [&(body.len() as u32).to_be_bytes()[..], body].concat()
+}
+
 /// The map file of a version with these edits.
 fn map_file(version: u8, edits: &[Edit]) -> Vec<u8> {
     let mut body = vec![version];
@@ -87,7 +94,23 @@ fn map_file(version: u8, edits: &[Edit]) -> Vec<u8> {
         body.extend(float.to_bits().to_be_bytes());
     }
     body.extend(bytes(edits));
-    [&(body.len() as u32).to_be_bytes()[..], &body].concat()
+    counted(&body)
+}
+
+/// The season file of so many windows, each from 06:00 to 22:00 on a day of its own: no two hold in a common minute, which only their days show.
+fn season_file(windows: usize) -> Vec<u8> {
+    let mut body = vec![1];
+    for window in 0..windows {
+        let opening = window as u32 * DAY_MINUTES;
+        for minute in [opening, opening + DAY_MINUTES] {
+            body.extend(minute.to_be_bytes());
+        }
+        body.push(window as u8);
+        for of_day in [360u16, 1320] {
+            body.extend(of_day.to_be_bytes());
+        }
+    }
+    counted(&body)
 }
 
 fn any_edit(random: &mut Random, made: usize) -> Edit {
@@ -174,6 +197,12 @@ unsafe extern "C" fn file_cells(file: *const u8, length: usize, repeats: u64) ->
     (0..repeats).map(|turn| unsafe { gatemap_cell(file, length, turn as u8, out.as_mut_ptr(), out.len()) } + out[16] as u64).sum()
 }
 
+/// The map of a season, so many times, at a minute that comes after all its windows: each is looked at, and none holds.
+unsafe extern "C" fn seasons(season: *const u8, length: usize, repeats: u64) -> u64 {
+    let mut out = [0; 1];
+    (0..repeats).map(|_| unsafe { gatemap_season(season, length, black_box(u32::MAX), out.as_mut_ptr(), out.len()) } + out[0] as u64).sum()
+}
+
 /// Edits along the bottom edge, so that a walk Right from corner 0 makes so many moves.
 fn row(moves: usize) -> Vec<Edit> {
     (1..moves).map(|n| Edit { point: if n == 1 { 0 } else { n as u8 + 2 }, direction: 1, ratio: 0.5, position: [0.5; 3] }).collect()
@@ -251,6 +280,17 @@ fn line_pulled(name: &str, file: &[u8], host: Host) {
     show_alone(name, time, &format!("{:.2} of the same without pulls, which takes {plain:.1}", time / plain));
 }
 
+/// A line of a season of so many windows, beside the set-point of the file of no edits, which takes its turns too.
+fn line_season(name: &str, windows: usize) {
+    let file = map_file(1, &[]);
+    let season = season_file(windows);
+    let [time, set_point] = in_turns(100000 / (windows as u64 + 1), [&ours(seasons, &season), &ours(files, &file)]);
+    let beside = format!("{:.2} of the set-point of the file of no edits, which takes {set_point:.1}", time / set_point);
+    let pairs = windows * windows.saturating_sub(1) / 2;
+    let growth = if pairs > 0 { format!("; {:.2} for each of {pairs} pairs", time / pairs as f64) } else { String::new() };
+    show_alone(&format!("season of {name}"), time, &(beside + &growth));
+}
+
 fn main() {
     println!("{:56} {:>10} {:>10} {:>10} {:>8} {:>8}", "work", "here, ns", "Rust, ns", "cells, ns", "ratio", "to cells");
     for points in [4, 16, 64, MOST_POINTS] {
@@ -310,5 +350,8 @@ fn main() {
         ("900 torn edits, 100 done", done_among(100, Outcome::Torn)),
     ] {
         line_withdrawing(name, 20000 / (edits.len() as u64 + 10), &edits);
+    }
+    for (name, windows) in [("no windows", 0), ("1 window", 1), ("16 windows", 16), ("64 windows", 64)] {
+        line_season(name, windows);
     }
 }

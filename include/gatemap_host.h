@@ -3,11 +3,13 @@
  *
  * Two calls read a map file and draw its map. gatemap_set_point gives the
  * position and the total weight at (s, t); gatemap_cell says which points reach
- * a cell of the map. Where there is no answer, they say why by a number. Each is
- * proved to do so for every file, every place or cell and every buffer
- * (crates/gatemap_host); docs/FORMATS.md has the format of a map file. There are
- * two versions of it, with one layout: in version 1 a torn edit stays, and in
- * version 2 it is withdrawn, which leaves the map as it was before.
+ * a cell of the map. A third, gatemap_season, reads a season file and says which
+ * map is to be used at a minute. Where there is no answer, they say why by a
+ * number. Each is proved to do so for every file or season, every place, cell or
+ * minute and every buffer (crates/gatemap_host); docs/FORMATS.md has the formats.
+ * There are two versions of a map file, with one layout: in version 1 a torn edit
+ * stays, and in version 2 it is withdrawn, which leaves the map as it was before.
+ * Of a season file there is one.
  *
  *     uint8_t value[GATEMAP_VALUE_BYTES];
  *     if (gatemap_set_point(file, length, s_bits, t_bits, value, sizeof value) == GATEMAP_DONE)
@@ -15,9 +17,10 @@
  *
  * `rt staticlib gatemap_host` writes the archive, target/staticlib/libgatemap_host.a,
  * for x86-64 Linux. It links with gcc or clang and needs nothing but the C
- * library (memcpy, memset). examples/host.c is a whole program.
+ * library (memcpy, memset). examples/host.c is a whole program, and
+ * examples/season.c one that takes the map that a season has at a minute.
  *
- * The host sees to this, in both calls:
+ * The host sees to this, in every call; what is said of file holds for season too:
  *  - file and out each point to as many bytes as their length says, and the two
  *    do not overlap. Neither is null, even where its length is 0: nothing is
  *    then read or written there, but a null pointer is not what was proved.
@@ -26,7 +29,8 @@
  *    with one file if need be, each with its own buffer.
  *  - GATEMAP_STACK_BYTES of stack are free. A call allocates nothing else.
  *  - the processor rounds to nearest and keeps subnormal numbers, as a C program
- *    starts (a link with -ffast-math may change that).
+ *    starts (a link with -ffast-math may change that). gatemap_season computes
+ *    with whole numbers alone and does not need this.
  *
  * A call always returns, and never sets errno. Done, it returns 0 and has written
  * the first bytes of the buffer, and the rest is untouched. Refused, it returns
@@ -43,20 +47,24 @@ extern "C" {
 #endif
 
 enum {
-    /* What a value takes in the buffer, and what a cell does. */
+    /* What a value takes in the buffer, what a cell does, and what a map number does. */
     GATEMAP_VALUE_BYTES = 32,
     GATEMAP_CELL_BYTES = 17,
-    /* The longest file that is not refused: 4 + 105 + 34 * 1,000 bytes. */
+    GATEMAP_MAP_BYTES = 1,
+    /* The longest map file that is not refused: 4 + 105 + 34 * 1,000 bytes. */
     GATEMAP_MOST_FILE_BYTES = 34109,
-    /* The stack that a call may take: at most 18,608 bytes were measured (tests/host). */
+    /* The longest season file that is not refused: 4 + 1 + 13 * 64 bytes. */
+    GATEMAP_MOST_SEASON_BYTES = 837,
+    /* The stack that a call may take: at most 18,464 bytes were measured (tests/host). */
     GATEMAP_STACK_BYTES = 24576
 };
 
 /*
- * The answer numbers. gatemap_set_point returns 0, 3, 4, 9 or 12 to 16, and
- * gatemap_cell one of these other than 15. The others are answers of single
- * edits, and of other calls on a map: both calls pass a refused edit over, and
- * the program `gatemap` prints its number.
+ * The answer numbers. gatemap_set_point returns 0, 3, 4, 9 or 12 to 16,
+ * gatemap_cell one of these other than 15, and gatemap_season 0, 12, 13, 16, 18 or
+ * 19. The others are answers of single edits, and of other calls on a map: the
+ * calls on a map file pass a refused edit over, and the program `gatemap` prints
+ * its number.
  */
 enum gatemap_answer {
     GATEMAP_DONE = 0,
@@ -71,11 +79,14 @@ enum gatemap_answer {
     GATEMAP_RING = 9,       /* a way that goes round */
     GATEMAP_FULL = 10,      /* a map of 128 points */
     GATEMAP_NO_POINT = 11,  /* a point that was never made */
-    GATEMAP_LENGTH = 12,    /* a file of a wrong length, or with a wrong count in front */
-    GATEMAP_VERSION = 13,   /* a file whose version is neither 1 nor 2 */
-    GATEMAP_HEADING = 14,   /* a file with an edit whose direction is above 3 */
+    GATEMAP_LENGTH = 12,    /* a file of a wrong length, or with a wrong count in front; a season with a minute of the day above 1440 */
+    GATEMAP_VERSION = 13,   /* a map file whose version is neither 1 nor 2, a season whose version is not 1 */
+    GATEMAP_HEADING = 14,   /* a map file with an edit whose direction is above 3 */
     GATEMAP_NO_WEIGHT = 15, /* a weight at (s, t) that is not positive and finite */
-    GATEMAP_SHORT = 16      /* a buffer under GATEMAP_VALUE_BYTES or GATEMAP_CELL_BYTES */
+    GATEMAP_SHORT = 16,     /* a buffer under GATEMAP_VALUE_BYTES, GATEMAP_CELL_BYTES or GATEMAP_MAP_BYTES, by the call */
+    GATEMAP_PULL = 17,      /* a pull that is negative, infinite or not a number */
+    GATEMAP_CLASH = 18,     /* a season with two windows that hold in some common minute, or with one that holds in none */
+    GATEMAP_SHUT = 19       /* a minute at which no window of the season holds */
 };
 
 /*
@@ -125,6 +136,30 @@ uint64_t gatemap_set_point(const uint8_t *file, size_t file_length, uint64_t s_b
  * under 17 bytes 16, the file's 12, 13, 14, the evaluation's 3, 4 or 9.
  */
 uint64_t gatemap_cell(const uint8_t *file, size_t file_length, uint8_t cell, uint8_t *out, size_t out_length);
+
+/*
+ * Which map is to be used at a minute of a season.
+ *
+ * season, season_length  the bytes of the season file, whatever they are
+ * minute                 counted from the season's start, which is at midnight
+ * out, out_length        the buffer
+ *
+ * A season is up to 64 windows, each for one map. A window has its opening and its
+ * closing minute of the season and its first and last minute of the day, and it
+ * holds at a minute m when opening <= m < closing and first <= m % 1440 < last. Of
+ * a season that is not refused, at most one holds at each minute.
+ *
+ * Done, the first byte of the buffer is the map number of the window that holds,
+ * 0 to 255. Which map file has which number is for the host to say.
+ *
+ * Where several refusals hold, the first in this order is returned: a buffer
+ * under 1 byte 16; a season of a wrong length or with a wrong count in front 12;
+ * a first or last minute of the day above 1440, in any window, 12 too; a version
+ * other than 1 13; two windows that hold in some common minute below 2^32, or one
+ * that holds in no minute, 18; no window that holds at this minute 19. The
+ * season's own, 12, 13 and 18, are the same at every minute.
+ */
+uint64_t gatemap_season(const uint8_t *season, size_t season_length, uint32_t minute, uint8_t *out, size_t out_length);
 
 #ifdef __cplusplus
 }

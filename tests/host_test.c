@@ -1,11 +1,10 @@
 /*
- * host_test CASES [PROGRAM]: tries the C calls, and with PROGRAM the program `gatemap` too, and says in one line how it went.
+ * host_test CASES [PROGRAM]: tries the C calls on a map file, and with PROGRAM the program `gatemap` too, and says in one line how it went.
  *
  * The files are document 01's sample in each version, every prefix and every change of one byte of it; samples of 0, 1, 2, 999, 1,000 and 1,001 edits,
  * also with count or length one off; two edits of which the first is torn; maps with a line of 124 points on the lower edge, in version 2 among 124
  * withdrawn edits; and those of CASES, which is crates/file_replay/data/cases (oracle/README.md has its format).
- * Every call is made twice, with file and buffer right before memory that cannot be touched and right after such memory, so that one
- * byte read or written too far ends the test; what of the buffer's page is not to be written is looked at after each call.
+ * How a call is made and looked at is said in fenced_calls.h.
  * A cell's words are held against the stored ones or, of a file made here, against those that the outer knots of its points give; the knots are
  * worked out here, from document 01. Asked of one place, the two calls must be refused alike, and a place that no point reaches has no weight, unless
  * the border is NaN.
@@ -18,21 +17,12 @@
 #include <errno.h>
 #include <fcntl.h>
 #include <math.h>
-#include <pthread.h>
 #include <spawn.h>
-#include <stdarg.h>
-#include <stdio.h>
-#include <stdlib.h>
-#include <string.h>
-#include <sys/mman.h>
 #include <sys/wait.h>
-#include <unistd.h>
 
-#include "gatemap_host.h"
+#include "fenced_calls.h"
 
 enum {
-    COUNT_BYTES = 4,
-    VERSION_AT = 4,
     BORDER_AT = 5,
     EDITS_AT = 109,
     EDIT_BYTES = 34,
@@ -45,12 +35,7 @@ enum {
     COUNT_AT = 16,
     LINES = 16,
     CELLS = 256,
-    MOST_CASE_BYTES = 65536,
-    MOST_LINE_BYTES = 96,
-    MOST_ROOM = 80,
-    STACK_BYTES = 16 << 20,
-    FRAMES_BYTES = 1 << 18,
-    FILLER = 0xa5
+    MOST_LINE_BYTES = 96
 };
 
 /* The versions of a file: a torn edit stays, or it is withdrawn. */
@@ -63,64 +48,9 @@ static const uint64_t TWO = 0x4000000000000000;
 static const double MILLIONTH = 1.0 / 1000000.0;
 
 static const char *program;
-static unsigned long calls, runs, files, wrong;
-
-static void check(int right, const char *format, ...)
-{
-    if (right)
-        return;
-    if (wrong++ < 10) {
-        va_list arguments;
-        va_start(arguments, format);
-        fputs("wrong: ", stderr);
-        vfprintf(stderr, format, arguments);
-        fputc('\n', stderr);
-        va_end(arguments);
-    }
-}
-
-static void stop_unless(int can, const char *words)
-{
-    if (!can) {
-        perror(words);
-        exit(2);
-    }
-}
-
-/* ---- memory between two pages that cannot be touched */
-
-struct fenced {
-    uint8_t *start, *end;
-};
-
-static struct fenced fence(size_t bytes)
-{
-    size_t page = (size_t)sysconf(_SC_PAGESIZE);
-    size_t inner = (bytes + page - 1) / page * page;
-    uint8_t *all = mmap(NULL, inner + 2 * page, PROT_NONE, MAP_PRIVATE | MAP_ANONYMOUS, -1, 0);
-    stop_unless(all != MAP_FAILED, "mmap");
-    stop_unless(mprotect(all + page, inner, PROT_READ | PROT_WRITE) == 0, "mprotect");
-    return (struct fenced){all + page, all + page + inner};
-}
-
-static struct fenced file_room, out_room;
-
-static int all_filler(const uint8_t *from, const uint8_t *to)
-{
-    while (from < to)
-        if (*from++ != FILLER)
-            return 0;
-    return 1;
-}
+static unsigned long runs, files;
 
 /* ---- the calls */
-
-/* What is asked of a map: its set-point at (s, t), or which points reach a cell. */
-struct question {
-    enum { SET_POINT, CELL } of;
-    uint64_t s, t;
-    uint8_t cell;
-};
 
 static struct question at_place(uint64_t s, uint64_t t)
 {
@@ -132,45 +62,6 @@ static struct question at_cell(uint8_t cell)
     return (struct question){.of = CELL, .cell = cell};
 }
 
-/* What an answer takes in the buffer. */
-static size_t answer_bytes(struct question question)
-{
-    return question.of == CELL ? GATEMAP_CELL_BYTES : GATEMAP_VALUE_BYTES;
-}
-
-/* A call's answer: its number, and what it wrote, with fillers behind. */
-struct answer {
-    uint64_t number;
-    uint8_t bytes[GATEMAP_VALUE_BYTES];
-};
-
-/* Calls are made from one height of the stack, below all frames of this test, so that what is touched below it is a call's alone. */
-static uintptr_t height;
-
-static struct answer call_at(const uint8_t *bytes, size_t length, struct question question, size_t room, int at_end)
-{
-    struct answer answer;
-    uint8_t *lent = at_end ? file_room.end - length : file_room.start;
-    uint8_t *out = at_end ? out_room.end - room : out_room.start;
-    memcpy(lent, bytes, length);
-    memset(out_room.start, FILLER, (size_t)(out_room.end - out_room.start));
-    uintptr_t frame = (uintptr_t)__builtin_frame_address(0);
-    stop_unless(frame > height, "a frame below the height of the calls");
-    *(volatile uint8_t *)__builtin_alloca(frame - height) = FILLER;
-    if (question.of == CELL)
-        answer.number = gatemap_cell(lent, length, question.cell, out, room);
-    else
-        answer.number = gatemap_set_point(lent, length, question.s, question.t, out, room);
-    calls++;
-    size_t written = answer.number == GATEMAP_DONE && room >= answer_bytes(question) ? answer_bytes(question) : 0;
-    memset(answer.bytes, FILLER, sizeof answer.bytes);
-    memcpy(answer.bytes, out, written);
-    check(all_filler(out_room.start, out) && all_filler(out + written, out_room.end), "answer %d touched what it must not",
-          (int)answer.number);
-    check(memcmp(lent, bytes, length) == 0, "the file was written");
-    return answer;
-}
-
 /* The refusal that the buffer or the file brings by itself, or 0. */
 static uint64_t refusal_of(const uint8_t *bytes, size_t length, struct question question, size_t room)
 {
@@ -178,8 +69,7 @@ static uint64_t refusal_of(const uint8_t *bytes, size_t length, struct question 
         return GATEMAP_SHORT;
     if (length < EDITS_AT || length > GATEMAP_MOST_FILE_BYTES || (length - EDITS_AT) % EDIT_BYTES != 0)
         return GATEMAP_LENGTH;
-    size_t count = (size_t)bytes[0] << 24 | (size_t)bytes[1] << 16 | (size_t)bytes[2] << 8 | bytes[3];
-    if (count != length - COUNT_BYTES)
+    if (big_endian(bytes, COUNT_BYTES) != length - COUNT_BYTES)
         return GATEMAP_LENGTH;
     if (bytes[VERSION_AT] != STAYS && bytes[VERSION_AT] != WITHDRAWS)
         return GATEMAP_VERSION;
@@ -198,36 +88,18 @@ static int from_evaluation(uint64_t number, struct question question)
 
 static struct answer call(const uint8_t *bytes, size_t length, struct question question, size_t room)
 {
-    struct answer answer = call_at(bytes, length, question, room, 1);
-    struct answer again = call_at(bytes, length, question, room, 0);
-    check(answer.number == again.number && memcmp(answer.bytes, again.bytes, sizeof answer.bytes) == 0,
-          "two calls differ: %d and %d", (int)answer.number, (int)again.number);
+    struct answer answer = call_twice(bytes, length, question, room);
     uint64_t refusal = refusal_of(bytes, length, question, room);
     check(refusal != 0 ? answer.number == refusal : from_evaluation(answer.number, question),
           "%d where %d is due, %zu bytes, room %zu", (int)answer.number, (int)refusal, length, room);
     return answer;
 }
 
-/* ---- numbers in files */
-
-static uint8_t *put_number(uint8_t *at, uint64_t number, int bytes)
-{
-    for (int i = bytes - 1; i >= 0; i--)
-        *at++ = (uint8_t)(number >> 8 * i);
-    return at;
-}
-
-static size_t pair_at(const uint8_t *bytes)
-{
-    return (size_t)bytes[0] << 8 | bytes[1];
-}
+/* ---- floats in files */
 
 static uint64_t number_at(const uint8_t *bytes)
 {
-    uint64_t number = 0;
-    for (int i = 0; i < WORD_BYTES; i++)
-        number = number << 8 | bytes[i];
-    return number;
+    return big_endian(bytes, WORD_BYTES);
 }
 
 static double float_of(uint64_t bits)
@@ -511,9 +383,6 @@ static size_t line_of_points(uint8_t *file, int version, double border, struct o
 
 /* ---- the files, one after the other */
 
-/* A call on a file made here, and the number that it answers. */
-typedef uint64_t trial(const uint8_t *bytes, size_t length);
-
 static uint64_t middle(const uint8_t *bytes, size_t length)
 {
     static char text[MOST_CASE_BYTES];
@@ -523,54 +392,17 @@ static uint64_t middle(const uint8_t *bytes, size_t length)
 
 static uint8_t file[MOST_CASE_BYTES];
 
-static void refused_for_length(trial *number_of, size_t length, const char *words)
-{
-    check(number_of(file, length) == GATEMAP_LENGTH, "%zu bytes: %s", length, words);
-}
-
-static void every_prefix(trial *number_of, int version)
-{
-    size_t length = sample(file, version, 1);
-    for (size_t prefix = 0; prefix < length; prefix++)
-        refused_for_length(number_of, prefix, "a prefix");
-}
-
-static void every_change_of_a_byte(trial *number_of, int version)
-{
-    size_t length = sample(file, version, 1);
-    for (size_t at = 0; at < length; at++) {
-        uint8_t kept = file[at];
-        for (int change = 1; change < 256; change++) {
-            unsigned long before = wrong;
-            file[at] = (uint8_t)(kept ^ change);
-            number_of(file, length);
-            check(wrong == before, "so it is with byte %zu changed to %d", at, file[at]);
-        }
-        file[at] = kept;
-    }
-}
-
 static const size_t EDITS[] = {0, 1, 2, MOST_EDITS - 1, MOST_EDITS, MOST_EDITS + 1};
 
 enum { EDITS_TRIED = sizeof EDITS / sizeof EDITS[0] };
 
-static void counts_one_off(trial *number_of, int version)
-{
-    for (int i = 0; i < EDITS_TRIED; i++)
-        for (int off = -1; off <= 1; off += 2) {
-            size_t length = sample(file, version, EDITS[i]);
-            refused_for_length(number_of, length + (size_t)off, "a length that is one off");
-            put_number(file, length - COUNT_BYTES + (uint64_t)off, COUNT_BYTES);
-            refused_for_length(number_of, length, "a count that is one off");
-            refused_for_length(number_of, length + (size_t)off, "count and length one off");
-        }
-}
-
 static void counts_of_edits(trial *number_of, int version)
 {
-    for (int i = 0; i < EDITS_TRIED; i++)
-        check(number_of(file, sample(file, version, EDITS[i])) == (EDITS[i] <= MOST_EDITS ? GATEMAP_DONE : GATEMAP_LENGTH), "%zu edits",
-              EDITS[i]);
+    for (int i = 0; i < EDITS_TRIED; i++) {
+        size_t length = sample(file, version, EDITS[i]);
+        check(number_of(file, length) == (EDITS[i] <= MOST_EDITS ? GATEMAP_DONE : GATEMAP_LENGTH), "%zu edits", EDITS[i]);
+        counts_one_off(number_of, file, length);
+    }
 }
 
 /* The versions before and after those that there are, and the last. */
@@ -600,9 +432,9 @@ static void every_room(struct question question, int version)
 static void files_made_here(trial *number_of, struct question question)
 {
     for (int version = STAYS; version <= WITHDRAWS; version++) {
-        every_prefix(number_of, version);
-        every_change_of_a_byte(number_of, version);
-        counts_one_off(number_of, version);
+        size_t length = sample(file, version, 1);
+        every_prefix(number_of, file, length);
+        every_change_of_a_byte(number_of, file, length);
         counts_of_edits(number_of, version);
         every_room(question, version);
     }
@@ -745,13 +577,11 @@ static void stored_cells(const struct stored *stored)
 static void stored_files(const char *path, void each(const struct stored *))
 {
     static uint8_t rest[MOST_CASE_BYTES];
-    uint8_t head[2];
+    size_t size;
     FILE *cases = fopen(path, "rb");
     stop_unless(cases != NULL, path);
-    for (files = 0; fread(head, 1, 2, cases) == 2; files++) {
+    for (files = 0; next_case(cases, rest, &size); files++) {
         struct stored stored;
-        size_t size = pair_at(head);
-        stop_unless(fread(rest, 1, size, cases) == size, "a stored case");
         stored.length = pair_at(rest);
         stored.bytes = rest + 2;
         stored.text_length = pair_at(stored.bytes + stored.length);
@@ -814,7 +644,7 @@ static void stored_agrees(const struct stored *stored)
         agree(stored->bytes, stored->length, float_at(at), float_at(at + 8));
 }
 
-/* ---- all calls, and the stack */
+/* ---- all calls */
 
 static void *set_points(void *cases)
 {
@@ -847,24 +677,6 @@ static void *both_at_a_place(void *cases)
     return NULL;
 }
 
-/* Makes calls on a stack filled beforehand, and says how much of it was touched below the height that they are made from: no call took more. */
-static size_t stack_touched(void *make_calls(void *), char *cases)
-{
-    pthread_attr_t attributes;
-    pthread_t thread;
-    uint8_t *stack = mmap(NULL, STACK_BYTES, PROT_READ | PROT_WRITE, MAP_PRIVATE | MAP_ANONYMOUS, -1, 0);
-    stop_unless(stack != MAP_FAILED, "mmap");
-    memset(stack, FILLER, STACK_BYTES);
-    height = (uintptr_t)stack + STACK_BYTES - FRAMES_BYTES;
-    stop_unless(pthread_attr_init(&attributes) == 0 && pthread_attr_setstack(&attributes, stack, STACK_BYTES) == 0 &&
-                    pthread_create(&thread, &attributes, make_calls, cases) == 0 && pthread_join(thread, NULL) == 0,
-                "a thread");
-    size_t untouched = 0;
-    while (untouched < STACK_BYTES && stack[untouched] == FILLER)
-        untouched++;
-    return height - (uintptr_t)(stack + untouched);
-}
-
 int main(int argc, char **argv)
 {
     if (argc < 2 || argc > 3) {
@@ -872,8 +684,7 @@ int main(int argc, char **argv)
         return 2;
     }
     program = argc == 3 ? argv[2] : NULL;
-    file_room = fence(MOST_CASE_BYTES);
-    out_room = fence(MOST_ROOM);
+    make_rooms();
     size_t for_set_points = stack_touched(set_points, argv[1]);
     size_t for_cells = stack_touched(cells, argv[1]);
     stack_touched(both_at_a_place, argv[1]);

@@ -2,6 +2,7 @@ pub mod Theorems
 pub mod CallsLaws
 pub mod EndsProof
 pub mod NumbersProof
+pub mod SeasonProof
 pub mod FullStrokeProof
 pub mod CellProof
 pub mod LedgerProof

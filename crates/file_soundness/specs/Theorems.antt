@@ -1,6 +1,6 @@
--- Theorems on map files: statements only, with what they speak of. A file is any list of bytes. What the program prints of it is `reportOf`, and what a C host
--- gets is `hostNumber` and `hostBuffer`, and of a cell `hostCellNumber` and `hostCellBuffer`: the definitions that the contracts of the code cite.
-use Prim.Native.Nat.{ℕ, _<_, _≤_}
+-- Theorems on map files and seasons: statements only, with what they speak of. A file is any list of bytes. What the program prints of it is `reportOf`, and what a C host
+-- gets is `hostNumber` and `hostBuffer`, of a cell `hostCellNumber` and `hostCellBuffer`, and of a season `hostSeasonNumber` and `hostSeasonBuffer`: the definitions that the contracts of the code cite.
+use Prim.Native.Nat.{ℕ, _^_, _<_, _≤_}
 use mathlib.Core.Path.{_≡_}
 use mathlib.Core.Bool.{Bool, true, cond}
 use mathlib.Core.List.{List, [], _∷_, _++_}
@@ -8,7 +8,7 @@ use lib.Dec.{T}
 use lib.Ieee.{Float, le}
 use lib.ListN.{length}
 use Rattle.float64.specs.Sign.{0f}
-use Rattle.big_endian.specs.BigEndian.{numberAt, floatAt}
+use Rattle.big_endian.specs.BigEndian.{byteAt, numberAt, floatAt}
 use Rattle.control_point.specs.Refusal.{refusalNumber}
 use Rattle.control_point.specs.Small.{millionth}
 use Rattle.control_point.specs.declared.refusal.Refusal.{Refusal}
@@ -30,6 +30,9 @@ use Rattle.report_lines.specs.Lines.{editLines, countsLine, openLines, midLine}
 use Rattle.report.specs.Report.{reportOf}
 use Rattle.gatemap_host.specs.SetPoint.{hostAnswer, hostNumber, hostBuffer}
 use Rattle.gatemap_host.specs.CellCall.{hostCellNumber, hostCellBuffer}
+use Rattle.gatemap_host.specs.SeasonCall.{hostSeasonNumber, hostSeasonBuffer}
+use Rattle.season.specs.Season.{windowOf, windowCount}
+use Rattle.season_window.specs.Theorems.{Holds}
 use Rattle.grid_index.specs.CellTheorem.{Says}
 use Rattle.grid_index.specs.declared.Cell.{Cell}
 use Rattle.knot_vectors.specs.Knots.{generateKnotVectors}
@@ -68,6 +71,10 @@ NumbersNamed = (file : List ℕ) (s t : ℕ) (out : List ℕ) → OneOf (hostNum
 -- Whatever it is given, the C call for a cell returns 0 or one of the refusals 3, 4, 9, 12, 13, 14 and 16.
 abbrev pub CellNumbersNamed : Type 0
 CellNumbersNamed = (file : List ℕ) (cell : ℕ) (out : List ℕ) → OneOf (hostCellNumber file cell out) (0 ∷ (3 ∷ (4 ∷ (9 ∷ (12 ∷ (13 ∷ (14 ∷ (16 ∷ []))))))))
+
+-- Whatever it is given, the C call for a season returns 0 or one of the refusals 12, 13, 16, 18 and 19.
+abbrev pub SeasonNumbersNamed : Type 0
+SeasonNumbersNamed = (season : List ℕ) (minute : ℕ) (out : List ℕ) → OneOf (hostSeasonNumber season minute out) (0 ∷ (12 ∷ (13 ∷ (16 ∷ (18 ∷ (19 ∷ []))))))
 
 -- ---- NEVER PAST FULL STROKE, for files
 -- where a position's float on an axis stands in the buffer
@@ -110,6 +117,19 @@ FileCellSays =
     → cell < 256
     → hostCellNumber file cell out ≡ 0
     → Says (mapOf file .mesh .listed) (generateKnotVectors millionth (mapOf file) .map .knots) cell (cellIn (hostCellBuffer file cell out))
+
+-- ---- THE MAP OF A SEASON
+-- Take any season, any minute and any buffer. Where the C call for a season answers 0, the byte that it wrote is the map number of a window that holds at the minute, and no other window holds there.
+abbrev pub SeasonByteSays : Type 0
+SeasonByteSays =
+    (season : List ℕ) (minute : ℕ) (out : List ℕ)
+    → minute < 2 ^ 32
+    → hostSeasonNumber season minute out ≡ 0
+    → (i : ℕ)
+    × (i < windowCount season)
+    × Holds (windowOf season i) minute
+    × (byteAt (hostSeasonBuffer season minute out) 0 ≡ windowOf season i .map)
+    × ((j : ℕ) → j < windowCount season → Holds (windowOf season j) minute → j ≡ i)
 
 -- ---- THE LEDGER OF SIDES, for files
 -- the answers of a file's edits that are entered in the ledger: those of withdrawn edits are left out, and where torn edits stay none is (`all-entered`)

@@ -1,16 +1,14 @@
 -- The order of the windows is not seen: what is said of some window, of some two windows, and of the one window that holds does not depend on their numbers.
-use Prim.Native.Nat.{ℕ, _+_, _*_, _-_, _/_, _%_, _^_, _<_}
+use Prim.Native.Nat.{ℕ, _-_, _/_, _^_, _<_}
 use mathlib.Core.Path.{_≡_, refl, sym, ap, _∙_, subst}
-use mathlib.Core.Bool.{Bool, true, false, not, cond, _&&_}
+use mathlib.Core.Bool.{Bool, true, false}
 use mathlib.Core.List.{List}
 use mathlib.Core.Logic.{_⊎_, inl, inr, ⊎-elim}
 use native.Mathlib.Omega.{arith}
-use lib.Dec.{leb, eqb, ltb}
-use lib.ListN.{length}
+use lib.Dec.{eqb, ltb}
 use borrow.Author.Tests.{ltb-true, ltb-false}
-use Rattle.big_endian.specs.BigEndian.{byteAt, numberAt}
-use Rattle.control_point.specs.declared.refusal.Refusal.the-variants.{Length, Version, Clash}
-use Rattle.counted_file.specs.Counted.{countBytes, itemCount, countedRight}
+use Rattle.big_endian.specs.BigEndian.{numberAt}
+use Rattle.counted_file.specs.Counted.{countBytes, countedRight}
 use Rattle.counted_file.specs.declared.FileCheck.{FileCheck}
 use Rattle.counted_file.specs.declared.FileCheck.the-variants.{Valid, Refused as Invalid}
 use Rattle.counting.specs.BoolLaws.{same-tests}
@@ -19,7 +17,7 @@ use Rattle.counting.specs.SomeLaws.{some-tells, some-shows}
 use Rattle.season_window.specs.Theorems.{Holds, Ever, Together}
 use Rattle.season_window.specs.Window.{pastDay, holdsAt}
 use Rattle.season_window.specs.declared.Window.{Window}
-use Rattle.season.specs.Season.{windowsAt, windowBytes, mostWindows, versionAt, theVersion, windowOf, windowCount, seasonLengthRight, daysWrong, seasonVersionRight, clashes, checkedSeason, someHolds, mapOf, seasonMap}
+use Rattle.season.specs.Season.{windowsAt, windowBytes, versionAt, theVersion, windowOf, windowCount, seasonLengthRight, daysWrong, seasonVersionRight, clashes, checkedSeason, someHolds, mapOf, seasonMap}
 use Rattle.season.specs.SeasonLaws.{valid-tells}
 use Rattle.season.specs.Theorems.{Clashing, Reordered, OrderUnseen}
 use Rattle.season.specs.TheoremsProof.{clash-tells, clash-shows, holding-found, map-of-holding, map-of-none}

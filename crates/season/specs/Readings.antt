@@ -1,5 +1,5 @@
 -- Readings of seasons, computed: the theorems speak of seasons that there are, and the limits of the paper are where it has them. Statements only.
-use Prim.Native.Nat.{ℕ, suc, _+_, _*_}
+use Prim.Native.Nat.{ℕ, _+_, _*_}
 use mathlib.Core.Path.{_≡_}
 use mathlib.Core.List.{List, [], _∷_, _++_}
 use lib.ListN.{length}

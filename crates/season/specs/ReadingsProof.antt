@@ -1,9 +1,8 @@
 -- The readings: where every closing minute has 32 bits, the test of all windows is what code decides of them, and that is computed.
-use Prim.Native.Nat.{ℕ, zero, suc, _^_, _≤_, _<_}
+use Prim.Native.Nat.{ℕ, _^_, _≤_, _<_}
 use mathlib.Core.Path.{_≡_, refl, sym, ap, _∙_}
 use mathlib.Core.Bool.{Bool, true, false, not, cond, _||_}
-use mathlib.Core.List.{List, [], _∷_}
-use native.Mathlib.Omega.{arith}
+use mathlib.Core.List.{List, []}
 use lib.Dec.{ltb}
 use borrow.Author.Tests.{ltb-false}
 use Rattle.big_endian.specs.BigEndian.{numberAt}
@@ -18,8 +17,7 @@ use Rattle.counting.specs.SomeLaws.{some-shows, some-same}
 use Rattle.season_window.specs.Decision.{common, decided}
 use Rattle.season_window.specs.DecisionLaws.{decided-right, decided-together}
 use Rattle.season_window.specs.Window.{holdsAt, canHold, holdTogether}
-use Rattle.season_window.specs.declared.Window.{Window}
-use Rattle.season.specs.Readings.{window, seasonOf, frost, SeasonReadings}
+use Rattle.season.specs.Readings.{seasonOf, frost, SeasonReadings}
 use Rattle.season.specs.Season.{windowOf, windowCount, seasonLengthRight, daysWrong, seasonVersionRight, holdsWithOne, clashes, checkedSeason, mapOf, mapAmong, seasonMap}
 use Rattle.season.specs.declared.SeasonAnswer.{SeasonAnswer}
 use Rattle.season.specs.declared.SeasonAnswer.the-variants.{Is, Refused}

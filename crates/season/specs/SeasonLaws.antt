@@ -8,6 +8,7 @@ use native.Mathlib.Omega.{arith}
 use lib.ListN.{drop}
 use lib.Seq.{getD-drop}
 use borrow.Author.Tests.{not-true}
+use Rattle.big_endian.specs.BigEndian.{byteAt, numberAt}
 use Rattle.big_endian.specs.BigEndianLaws.{number-after}
 use Rattle.control_point.specs.Told.{Told, natural, tells, unless, refusalTold}
 use Rattle.control_point.specs.declared.refusal.Refusal.{Refusal}
@@ -23,15 +24,25 @@ use Rattle.season_window.specs.Window.{holdsAt, canHold}
 use Rattle.season_window.specs.declared.Window.{Window}
 use Rattle.season.specs.declared.SeasonAnswer.{SeasonAnswer}
 use Rattle.season.specs.declared.SeasonAnswer.the-variants.{Is, Refused}
-use Rattle.season.specs.Season.{windowsAt, windowBytes, mostWindows, windowAt, windowOf, windowCount, seasonLengthRight, daysWrong, seasonVersionRight, holdsWithOne, clashes, checkedSeason, someHolds, mapHeld, mapAmong, mapOf, seasonMap, seasonTold, whereSeason, checkTable, mapTable}
+use Rattle.season.specs.Season.{windowsAt, windowBytes, mostWindows, closingIn, mapIn, firstIn, lastIn, windowAt, windowOf, windowCount, seasonLengthRight, daysWrong, seasonVersionRight, holdsWithOne, clashes, checkedSeason, someHolds, mapHeld, mapAmong, mapOf, seasonMap, seasonTold, whereSeason, checkTable, mapTable}
 
 -- ---- what stands after the first bytes stands in all bytes, that many places on
 window-after : (season : List ℕ) (count at : ℕ) → windowAt (drop count season) at ≡ windowAt season (count + at)
 window-after season count at = simp (number-after, getD-drop, add-assoc)
 
-pub window-behind : (season : List ℕ) (n : ℕ) → windowAt (drop (windowsAt + n * windowBytes) season) 0 ≡ windowOf season n
+window-behind : (season : List ℕ) (n : ℕ) → windowAt (drop (windowsAt + n * windowBytes) season) 0 ≡ windowOf season n
 unfolding windowOf
 window-behind season n = window-after season (windowsAt + n * windowBytes) 0 ∙ ap (windowAt season) (omega arith)
+
+-- a window read there, number by number
+pub window-read : (season place : List ℕ) (n opening closing map first last : ℕ) → place ≡ drop (windowsAt + n * windowBytes) season
+    → opening ≡ numberAt 4 place 0
+    → closing ≡ numberAt 4 place closingIn
+    → map ≡ byteAt place mapIn
+    → first ≡ numberAt 2 place firstIn
+    → last ≡ numberAt 2 place lastIn
+    → record { opening = opening; closing = closing; map = map; first = first; last = last } ≡ windowOf season n
+window-read season place n opening closing map first last there o c m f l = rw (o, c, m, f, l) (ap (λ (bytes : List ℕ). windowAt bytes 0) there ∙ window-behind season n)
 
 -- ---- one window more
 pub map-none : (season : List ℕ) (minute count : ℕ) → count ≤ 0 → Refused Shut ≡ mapAmong season minute count

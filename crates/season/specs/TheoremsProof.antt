@@ -1,11 +1,11 @@
 -- The theorems on seasons: a test over all windows that is true names one of them, and where none clash two that hold at a minute are one.
-use Prim.Native.Nat.{ℕ, _+_, _^_, _<_}
-use mathlib.Core.Path.{_≡_, refl, sym, ap, _∙_, subst}
+use Prim.Native.Nat.{ℕ, _^_, _<_}
+use mathlib.Core.Path.{_≡_, refl, sym, ap, _∙_}
 use mathlib.Core.Bool.{Bool, true, false, not, cond, _||_}
 use mathlib.Core.List.{List}
-use mathlib.Core.Logic.{_↔_, _⊎_, inl, inr, ⊎-elim}
+use mathlib.Core.Logic.{_⊎_, inl, inr, ⊎-elim}
 use native.Mathlib.Omega.{arith}
-use lib.Dec.{eqb, ltb}
+use lib.Dec.{ltb}
 use borrow.Author.Tests.{not-true, not-false, ltb-true, ltb-false}
 use Rattle.control_point.specs.Refusal.{refusalNumber}
 use Rattle.control_point.specs.declared.refusal.Refusal.the-variants.{Length, Version, Clash, Shut}
@@ -13,7 +13,7 @@ use Rattle.counted_file.specs.CountedLaws.{valid-refused}
 use Rattle.counted_file.specs.declared.FileCheck.{FileCheck}
 use Rattle.counted_file.specs.declared.FileCheck.the-variants.{Valid, Refused as Invalid}
 use Rattle.counting.specs.BoolLaws.{both-ways, or-case, or-first, or-second}
-use Rattle.counting.specs.Counting.{someBelow, lastBelow}
+use Rattle.counting.specs.Counting.{lastBelow}
 use Rattle.counting.specs.SomeLaws.{some-tells, some-shows, last-passes}
 use Rattle.season_window.specs.Theorems.{Holds, Ever, Together}
 use Rattle.season_window.specs.TheoremsProof.{holds-as-written, can-hold-is-ever, hold-together-is-together}
@@ -22,7 +22,6 @@ use Rattle.season_window.specs.declared.Window.{Window}
 use Rattle.season.specs.Season.{windowOf, windowCount, seasonLengthRight, daysWrong, seasonVersionRight, holdsWithOne, clashes, checkedSeason, someHolds, mapHeld, mapAmong, mapOf, seasonMap}
 use Rattle.season.specs.SeasonLaws.{valid-tells}
 use Rattle.season.specs.Theorems.{Readable, Clashing, ClashIsExistence, OneHolds, EachHolds, MapAnswered, ShutAnswered}
-use Rattle.season.specs.declared.SeasonAnswer.{SeasonAnswer}
 use Rattle.season.specs.declared.SeasonAnswer.the-variants.{Is, Refused}
 
 -- ---- the test of all windows

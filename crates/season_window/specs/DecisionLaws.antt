@@ -1,6 +1,6 @@
 -- What code decides is right: the first minute of a window's part of the day, from its opening on, is a minute at which it holds if there is one; and the part that two windows share
 -- holds where both do.
-use Prim.Native.Nat.{ℕ, _+_, _-_, _%_, _^_, _≤_, _<_, min, max}
+use Prim.Native.Nat.{ℕ, _+_, _-_, _%_, _^_, _≤_, _<_, min}
 use mathlib.Core.Path.{_≡_, refl, sym, ap, _∙_}
 use mathlib.Core.Bool.{Bool, true, false, cond, _&&_}
 use native.Mathlib.Nat.{le-max-left, le-max-right, min-le-left, min-le-right, max-le, le-min}
@@ -8,7 +8,6 @@ use native.Mathlib.Omega.{arith}
 use lib.Dec.{leb, ltb}
 use borrow.Author.Tests.{lt-ltb, le-ltb, le-leb, ltb-true, ltb-false, leb-true}
 use Rattle.counting.specs.BoolLaws.{and-both, same-tests}
-use Rattle.counting.specs.Counting.{someBelow}
 use Rattle.counting.specs.SomeLaws.{some-is, some-same}
 use Rattle.season_window.specs.Decision.{common, firstMinute, decided}
 use Rattle.season_window.specs.Theorems.{Holds}
@@ -43,7 +42,39 @@ holds-shows w m h =
       lt-ltb (m % dayMinutes) (w .last) (h .unended),
     )
 
+never : (w : Window) (m : ℕ) → (Holds w m → ⊥) → holdsAt w m ≡ false
+never w m out = by-test (holdsAt w m) refl
+  where
+    by-test : (holds : Bool) → holdsAt w m ≡ holds → holds ≡ false
+    by-test true holds = absurd (out (holds-tells w m holds))
+    by-test false holds = refl
+
+-- a minute out of the window, on one side or the other, in the season or in the day
+pub before-opening : (w : Window) (m : ℕ) → m < w .opening → false ≡ holdsAt w m
+before-opening w m out = sym (never w m (λ h. let opened = h .opened in omega arith))
+
+pub from-closing : (w : Window) (m : ℕ) → w .closing ≤ m → false ≡ holdsAt w m
+from-closing w m out = sym (never w m (λ h. let unclosed = h .unclosed in omega arith))
+
+pub before-first : (w : Window) (m : ℕ) → m % dayMinutes < w .first → false ≡ holdsAt w m
+before-first w m out = sym (never w m (λ h. let begun = h .begun in omega arith))
+
+-- on none of these three, the last minute decides
+pub last-decides : (w : Window) (m : ℕ) → w .opening ≤ m → m < w .closing → w .first ≤ m % dayMinutes → ltb (m % dayMinutes) (w .last) ≡ holdsAt w m
+unfolding holdsAt
+last-decides w m opened unclosed begun = rw (le-leb (w .opening) m opened, lt-ltb m (w .closing) unclosed, le-leb (w .first) (m % dayMinutes) begun) refl
+
 -- ---- the first minute
+pub first-today : (opening first last : ℕ) → opening % dayMinutes < first → opening + (first - opening % dayMinutes) ≡ firstMinute opening first last
+first-today opening first last before = rw (lt-ltb (opening % dayMinutes) first before) refl
+
+pub first-now : (opening first last : ℕ) → first ≤ opening % dayMinutes → opening % dayMinutes < last → opening ≡ firstMinute opening first last
+first-now opening first last begun inside = rw (le-ltb (opening % dayMinutes) first begun, lt-ltb (opening % dayMinutes) last inside) refl
+
+pub first-tomorrow : (opening first last : ℕ) → first ≤ opening % dayMinutes → last ≤ opening % dayMinutes
+    → opening + (dayMinutes - opening % dayMinutes) + first ≡ firstMinute opening first last
+first-tomorrow opening first last begun beyond = rw (le-ltb (opening % dayMinutes) first begun, le-ltb (opening % dayMinutes) last beyond) refl
+
 -- it is one of the day's part, from the opening on, and none before it is
 first-in : (opening first last : ℕ) → first < last → last ≤ dayMinutes
     → (opening ≤ firstMinute opening first last) × (first ≤ firstMinute opening first last % dayMinutes) × (firstMinute opening first last % dayMinutes < last)

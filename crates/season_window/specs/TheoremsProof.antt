@@ -1,17 +1,12 @@
 -- The theorems on windows: a test over all minutes that is true names one of them, and a minute that is named makes it true.
-use Prim.Native.Nat.{_≤_, min}
-use mathlib.Core.Path.{_≡_, sym, _∙_}
-use mathlib.Core.Bool.{true, _&&_}
-use mathlib.Core.Logic.{_↔_}
-use native.Mathlib.Nat.{min-le-left}
+use mathlib.Core.Path.{sym, _∙_}
+use mathlib.Core.Bool.{_&&_}
 use native.Mathlib.Omega.{arith}
 use Rattle.counting.specs.BoolLaws.{and-both}
 use Rattle.counting.specs.SomeLaws.{some-tells, some-shows}
-use Rattle.season_window.specs.Decision.{common, decided}
 use Rattle.season_window.specs.DecisionLaws.{minutes-are, holds-tells, holds-shows, decided-right, decided-together}
-use Rattle.season_window.specs.Theorems.{Holds, Ever, Together, HoldsAsWritten, CanHoldIsEver, HoldTogetherIsTogether, DecisionIsExistence}
-use Rattle.season_window.specs.Window.{seasonMinutes, holdsAt, canHold, holdTogether}
-use Rattle.season_window.specs.declared.Window.{Window}
+use Rattle.season_window.specs.Theorems.{HoldsAsWritten, CanHoldIsEver, HoldTogetherIsTogether, DecisionIsExistence}
+use Rattle.season_window.specs.Window.{seasonMinutes, holdsAt}
 
 pub holds-as-written : HoldsAsWritten
 holds-as-written w m = (holds-tells w m, holds-shows w m)

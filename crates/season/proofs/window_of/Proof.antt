@@ -1,7 +1,6 @@
--- `window_of` meets its contract: what stands after the first bytes stands in all bytes, that many places on.
-use mathlib.Core.Path.{_∙_}
+-- `window_of` meets its contract: each number is read at its place behind the first bytes.
 use borrow.Author.Needs.{needs}
-use Rattle.season.specs.SeasonLaws.{window-behind}
+use Rattle.season.specs.SeasonLaws.{window-read}
 use Rattle.season.proofs.window_of.Statement.{statement}
 use Rattle.season.proofs.window_of.Tie as tie
 
@@ -49,7 +48,8 @@ returns c =
     let opening = closing .before in
     let place = opening .before in
     let a = place .before .before .args in
-    rw (c .pair-at2 .ensures .0, first .pair-at .ensures .0, map .byte-at .ensures, closing .length-at2 .ensures .0, opening .length-at .ensures .0, place .after .ensures) (window-behind (a .season .now) (a .n))
+    window-read (a .season .now) _ (a .n) _ _ _ _ _ (place .after .ensures) (opening .length-at .ensures .0) (closing .length-at2 .ensures .0) (map .byte-at .ensures) (first .pair-at .ensures .0)
+    (c .pair-at2 .ensures .0)
 
 pub window-of-spec : {M : Type 1} → statement M
 window-of-spec =

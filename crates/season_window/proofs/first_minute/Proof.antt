@@ -1,6 +1,6 @@
 -- `first_minute` meets its contract: its tests are the definition's.
 use borrow.Author.Needs.{needs}
-use borrow.Author.Tests.{lt-ltb, le-ltb}
+use Rattle.season_window.specs.DecisionLaws.{first-today, first-now, first-tomorrow}
 use Rattle.season_window.proofs.first_minute.Statement.{statement}
 use Rattle.season_window.proofs.first_minute.Tie as tie
 
@@ -14,10 +14,10 @@ add-result : tie.Need-add-result
 add-result c = search needs
 
 returns : tie.Need-returns
-returns c = simp (lt-ltb _ _ (c .if1 .taken))
+returns c = first-today _ _ _ (c .if1 .taken)
 
 returns-2 : tie.Need-returns-2
-returns-2 c = simp (le-ltb _ _ (c .before .if1 .left), lt-ltb _ _ (c .if2 .taken))
+returns-2 c = first-now _ _ _ (c .before .if1 .left) (c .if2 .taken)
 
 sub-result-2 : tie.Need-sub-result-2
 sub-result-2 c = search needs
@@ -32,7 +32,7 @@ add-result-3 : tie.Need-add-result-3
 add-result-3 c = search needs
 
 returns-3 : tie.Need-returns-3
-returns-3 c = simp (le-ltb _ _ (c .before .if1 .left), le-ltb _ _ (c .if2 .left))
+returns-3 c = first-tomorrow _ _ _ (c .before .if1 .left) (c .if2 .left)
 
 pub first-minute-spec : {M : Type 1} → statement M
 first-minute-spec =

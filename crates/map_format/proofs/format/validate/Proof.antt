@@ -6,12 +6,12 @@ use mathlib.Core.List.{List}
 use native.Mathlib.Omega.{arith}
 use borrow.Author.Needs.{needs}
 use borrow.Author.Tests.{not-true, not-false}
+use Rattle.control_point.specs.ToldLaws.{beside}
 use Rattle.counted_file.specs.Counted.{fileTold}
 use Rattle.counted_file.specs.CountedLaws.{length-tells}
-use Rattle.control_point.specs.ToldLaws.{beside}
+use Rattle.counted_file.specs.declared.FileCheck.{FileCheck}
 use Rattle.map_format.specs.Format.{editsAt, editBytes, mostEdits, versionOf, isVersion, lengthRight, checkedFile, fileTable}
 use Rattle.map_format.specs.FormatLaws.{file-told}
-use Rattle.counted_file.specs.declared.FileCheck.{FileCheck}
 use Rattle.map_format.proofs.format.validate.Statement.{statement}
 use Rattle.map_format.proofs.format.validate.Tie as tie
 
@@ -22,13 +22,13 @@ told bytes = beside fileTold (checkedFile bytes) (fileTable bytes) (file-told by
 counted-right-requires : tie.Need-counted-right-requires
 counted-right-requires c κs = search needs
 
-returns : tie.Need-returns
-unfolding checkedFile
-returns c = told _ _ (rw (sym (c .before .counted-right .ensures) ∙ not-true _ (c .if1 .taken)))
-
 -- past the test of the length
 long : (c : tie.Else1) → lengthRight (c .before .before .before .args .file .now) ≡ true
 long c = sym (c .before .counted-right .ensures) ∙ not-false _ (c .if1 .left)
+
+returns : tie.Need-returns
+unfolding checkedFile
+returns c = told _ _ (rw (sym (c .before .counted-right .ensures) ∙ not-true _ (c .if1 .taken)))
 
 version-of-requires : tie.Need-version-of-requires
 version-of-requires c κs = search needs

@@ -1,4 +1,4 @@
--- `common` meets its contract: each call's promise, put in for its result, gives the definition.
+-- `common` meets its contract: each field is what its call promises.
 use borrow.Author.Needs.{needs}
 use Rattle.season_window.specs.Decision.{common}
 use Rattle.season_window.proofs.Window.common.Statement.{statement}
@@ -22,7 +22,14 @@ returns c =
     let first = c .before in
     let closing = first .before in
     let opening = closing .before in
-    rw (c .earlier2 .ensures, first .later2 .ensures, closing .earlier .ensures, opening .later .ensures)
+    λ i.
+    record {
+      opening = opening .later .ensures i;
+      closing = closing .earlier .ensures i;
+      map = opening .before .args .self .map;
+      first = first .later2 .ensures i;
+      last = c .earlier2 .ensures i;
+    }
 
 pub common-spec : {M : Type 1} → statement M
 common-spec =
