@@ -2,7 +2,7 @@
  * control PROGRAM WORD CASES FOLDER: changes stored answers, and says how many changes of how many kinds of answers the program saw.
  *
  * PROGRAM replays the file `cases` of the folder that it is run in and says `right N wrong M`. CASES is its stored file, in the format of
- * WORD (basis, store, map or file; oracle/README.md has them). For each kind of answer the smallest case that has one is taken: alone it
+ * WORD (basis, store, map, file or season; oracle/README.md has them). For each kind of answer the smallest case that has one is taken: alone it
  * must be right, and with any byte of that answer flipped, or two openings exchanged, it must be wrong. Among all cases, one that is flipped
  * must be the only wrong one. A case that is cut, at whatever length, or is a byte longer must be wrong. What PROGRAM is given is written in
  * FOLDER.
@@ -271,7 +271,7 @@ static void map_call(size_t *made)
     }
 }
 
-/* ---- the four formats */
+/* ---- the five formats */
 static void read_basis(void)
 {
     skip(48);
@@ -370,6 +370,15 @@ static void read_file(void)
     host_calls("C cell", 2, 17);
 }
 
+static void read_season(void)
+{
+    answer(2, "length");
+    answer(2, "length of the season");
+    now -= 2;
+    skip(pair());
+    host_calls("C season", 5, 1);
+}
+
 /* ---- what must occur */
 static const char *const basis_parts[] = {
     "result", NULL
@@ -421,6 +430,12 @@ static const char *const file_parts[] = {
     "C cell: how many", "length", "length of the file", "length of the text", NULL
 };
 
+static const char *const season_parts[] = {
+    "C season 0: number", "C season 0: buffer", "C season 12: number", "C season 12: buffer", "C season 13: number", "C season 13: buffer",
+    "C season 16: number", "C season 16: buffer", "C season 18: number", "C season 18: buffer", "C season 19: number", "C season 19: buffer",
+    "C season: how many", "length", "length of the season", NULL
+};
+
 static const struct format {
     const char *word;
     void (*read)(void);
@@ -432,6 +447,7 @@ static const struct format {
     {"store", read_store, store_parts, 1},
     {"map", read_map, map_parts, 1},
     {"file", read_file, file_parts, 1},
+    {"season", read_season, season_parts, 1},
 };
 
 static void read_cases(const struct format *format)

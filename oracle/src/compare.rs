@@ -5,12 +5,13 @@ use crate::draw::{MapList, Plan, Pulls, Withdrawing, cell, full_map, map};
 use crate::map_calls::{MapAnswer, MapCall};
 use crate::random::Random;
 use crate::reading::{Insertion, RING};
+use crate::tallies::Numbers;
 
 /// How often each answer occurs, by kind of call; the links inferred, the insertions withdrawn, the openings, the values with a positive and finite
 /// weight, all values with a listed point whose pull is not 1.0, the cells that a listed point misses, and those that one of number 64 or more reaches.
 #[derive(Default)]
 pub struct Tally {
-    answers: [[u64; 18]; 14],
+    answers: [Numbers; 14],
     openings: u64,
     inferred: u64,
     withdrawn: Withdrawn,
@@ -86,7 +87,7 @@ impl Tally {
             MapCall::Direct(Call::Navigate(..)) => 13,
             MapCall::Direct(_) => 12,
         };
-        self.answers[kind][answer.number() as usize] += 1;
+        self.answers[kind].count(answer.number());
         if let (MapCall::Insert { withdraws: true, .. }, MapAnswer::Inserted(answer)) = (call, answer) {
             self.withdrawn.count(answer);
         }
@@ -103,11 +104,7 @@ impl Tally {
     }
 
     pub fn print(&self) {
-        for (word, row) in WORDS.iter().zip(self.answers) {
-            let counts: Vec<String> =
-                row.iter().enumerate().filter(|(_, n)| **n > 0).map(|(number, n)| format!("{number}: {n}")).collect();
-            println!("{word:12} {}", counts.join(", "));
-        }
+        WORDS.iter().zip(self.answers).for_each(|(word, answers)| answers.print(word));
         self.withdrawn.print();
         println!(
             "links inferred: {}; openings: {}; values with a positive and finite weight: {}; values with a pull other than 1.0: {}",

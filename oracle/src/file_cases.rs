@@ -10,6 +10,7 @@ use crate::map_file::{
 };
 use crate::random::Random;
 use crate::reading::{BORDER, CAPACITY, DOWN, FULL, Insertion, LEFT, NO_WEIGHT, OPEN_SIDE, RIGHT, RING, TORN, UP};
+use crate::tallies::{Numbers, Words};
 
 /// How many are drawn of version 1 and of version 2.
 const DRAWN: [usize; 2] = [320, 72];
@@ -17,7 +18,7 @@ const REFUSED_EVALUATIONS: [usize; 2] = [8, 4];
 const FULL_STORES: [usize; 2] = [4, 2];
 
 /// What every byte of a C call's buffer is before the call, and all that a refusal leaves in it.
-const FILLER: u8 = 0xa5;
+pub const FILLER: u8 = 0xa5;
 const MOST_ROOM: usize = 64;
 
 const NANS: [u64; 6] = [
@@ -278,13 +279,13 @@ fn prefixes(random: &mut Random, version: u8) -> Vec<Vec<u8>> {
     cut.chain((COUNT_BYTES..three.len()).filter(is_kept).map(counted)).collect()
 }
 
-fn with_count(file: &[u8], count: u32) -> Vec<u8> {
+pub fn with_count(file: &[u8], count: u32) -> Vec<u8> {
     let mut changed = file.to_vec();
     changed[..COUNT_BYTES].copy_from_slice(&count.to_be_bytes());
     changed
 }
 
-fn with_byte(file: &[u8], at: usize, byte: u8) -> Vec<u8> {
+pub fn with_byte(file: &[u8], at: usize, byte: u8) -> Vec<u8> {
     let mut changed = file.to_vec();
     changed[at] = byte;
     changed
@@ -523,21 +524,6 @@ pub fn write(seed: u64) {
     out.write("crates/file_replay/data/cases");
 }
 
-/// How often each number is answered.
-#[derive(Default)]
-struct Numbers([usize; 17]);
-
-impl Numbers {
-    fn count(&mut self, number: u8) {
-        self.0[number as usize] += 1;
-    }
-    fn print(&self, words: &str) {
-        let counts: Vec<String> =
-            self.0.iter().enumerate().filter(|(_, n)| **n > 0).map(|(number, n)| format!("{number}: {n}")).collect();
-        println!("{words:12} {}", counts.join(", "));
-    }
-}
-
 /// How far the published map speaks to the text of a file that was run, by the entries of docs/DIFFERENCES.md.
 fn difference(run: &Run, mid: u8) -> &'static str {
     let knots = || run.maps.reading.listed.iter().map(|&point| run.maps.reading.store.point_knot_vectors(point));
@@ -551,23 +537,6 @@ fn difference(run: &Run, mid: u8) -> &'static str {
         "knots that fall or hold a NaN"
     } else {
         "none"
-    }
-}
-
-/// How often each word occurs, in the order in which they first do.
-#[derive(Default)]
-struct Words(Vec<(&'static str, usize)>);
-
-impl Words {
-    fn count(&mut self, word: &'static str) {
-        match self.0.iter_mut().find(|entry| entry.0 == word) {
-            Some(entry) => entry.1 += 1,
-            None => self.0.push((word, 1)),
-        }
-    }
-    fn print(&self, words: &str) {
-        let counts: Vec<String> = self.0.iter().map(|(word, n)| format!("{word} {n}")).collect();
-        println!("{words:12} {}", counts.join(", "));
     }
 }
 

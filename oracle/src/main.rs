@@ -16,7 +16,10 @@ mod original;
 mod proved;
 mod random;
 mod reading;
+mod season;
+mod season_cases;
 mod store_cases;
+mod tallies;
 
 /// The seed of every stored list.
 const SEED: u64 = 20030727;
@@ -28,6 +31,7 @@ fn main() {
         Some("store") => store_cases::write(SEED),
         Some("map") => map_cases::write(SEED),
         Some("files") => file_cases::write(SEED),
+        Some("seasons") => season_cases::write(SEED),
         Some("sample") => map_file::write_sample_answers(),
         Some("compare") => {
             let maps = words.get(1).map_or(20000, |word| word.parse().expect("a number of maps"));
@@ -46,6 +50,6 @@ fn main() {
         }
         Some("differences") => differences::show(),
         Some("published-side") => differences::published_side(words[1].parse().expect("the number of an example")),
-        _ => println!("words: basis store map files sample compare proved bound differences"),
+        _ => println!("words: basis store map files seasons sample compare proved bound differences"),
     }
 }

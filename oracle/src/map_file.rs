@@ -58,15 +58,15 @@ impl MapFile {
 }
 
 /// Bytes that are taken from the front. There are enough: the count was checked.
-struct Front<'a>(&'a [u8]);
+pub struct Front<'a>(pub &'a [u8]);
 
 impl Front<'_> {
-    fn take<const N: usize>(&mut self) -> [u8; N] {
+    pub fn take<const N: usize>(&mut self) -> [u8; N] {
         let (taken, rest) = self.0.split_first_chunk::<N>().expect("the count was checked");
         self.0 = rest;
         *taken
     }
-    fn byte(&mut self) -> u8 {
+    pub fn byte(&mut self) -> u8 {
         self.take::<1>()[0]
     }
     fn float(&mut self) -> f64 {
@@ -80,18 +80,18 @@ impl Front<'_> {
     }
 }
 
-/// The number of edits, where the count is that of the bytes that follow it and leaves room for whole edits.
-fn edits_counted(file: &[u8]) -> Option<usize> {
+/// How many entries of a size stand behind a head, where the file's count is that of the bytes that follow it, and they are whole and not too many.
+pub fn counted(file: &[u8], head: usize, size: usize, most: usize) -> Option<usize> {
     let (count, rest) = file.split_first_chunk::<COUNT_BYTES>()?;
     let count = u32::from_be_bytes(*count) as usize;
-    let of_edits = count.checked_sub(HEAD_BYTES)?;
-    let whole = count == rest.len() && of_edits % EDIT_BYTES == 0 && of_edits / EDIT_BYTES <= MOST_EDITS;
-    whole.then_some(of_edits / EDIT_BYTES)
+    let of_entries = count.checked_sub(head)?;
+    let whole = count == rest.len() && of_entries % size == 0 && of_entries / size <= most;
+    whole.then_some(of_entries / size)
 }
 
 /// What a file says, or its refusal: the length, then the version, then the directions.
 pub fn read(file: &[u8]) -> Refused<MapFile> {
-    let count = edits_counted(file).ok_or(LENGTH)?;
+    let count = counted(file, HEAD_BYTES, EDIT_BYTES, MOST_EDITS).ok_or(LENGTH)?;
     let mut front = Front(&file[COUNT_BYTES..]);
     let version = front.byte();
     if !VERSIONS.contains(&version) {

@@ -10,6 +10,8 @@ use crate::map_calls::MapCall;
 use crate::map_cases;
 use crate::map_file;
 use crate::random::Random;
+use crate::season::assert_common_minutes;
+use crate::season_cases;
 use crate::store_cases;
 use std::fmt::Debug;
 use std::path::{Path, PathBuf};
@@ -234,6 +236,30 @@ fn files(random: &mut Random, count: usize) -> usize {
     different
 }
 
+fn seasons(random: &mut Random, count: usize) -> usize {
+    assert_common_minutes(random);
+    let mut table = season_cases::Table::default();
+    let different = judge(
+        "season_replay",
+        count,
+        |place| {
+            let case = season_cases::fresh(random, place);
+            let bytes = season_cases::encoded(&case);
+            table.count(&case);
+            (case, bytes)
+        },
+        |program, case| match case.windows() {
+            Some((version, windows)) => {
+                let again = |windows: &[_]| season_cases::encoded(&case.with_windows(windows));
+                format!("version {version}{}", lines(&program.shrink(&windows, again)))
+            }
+            None => format!("a refused file of {} bytes", case.length()),
+        },
+    );
+    table.print();
+    different
+}
+
 /// So many evaluations with hostile numbers: none outside 0 to 1, and the proved program gives the same bits.
 pub fn bound(seed: u64, evaluations: usize) {
     let mut random = Random::new(seed);
@@ -248,11 +274,14 @@ pub fn bound(seed: u64, evaluations: usize) {
     assert_eq!((different, tried.outside), (0, 0));
 }
 
-/// So many maps, as many map files and lists of direct calls, and six times as many basis cases, all from one seed.
+/// So many maps, as many map files, lists of direct calls and seasons, and six times as many basis cases, all from one seed.
 pub fn compare(seed: u64, count: usize) {
     map_file::assert_sample_answers();
     let mut random = Random::new(seed);
-    let different =
-        maps(&mut random, count) + files(&mut random, count) + stores(&mut random, count) + bases(&mut random, 6 * count);
+    let different = maps(&mut random, count)
+        + files(&mut random, count)
+        + stores(&mut random, count)
+        + seasons(&mut random, count)
+        + bases(&mut random, 6 * count);
     assert_eq!(different, 0, "the proved programs and the published Rust differ");
 }

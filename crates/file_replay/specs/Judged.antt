@@ -1,27 +1,18 @@
--- What the report of a map file and the C calls leave, held against stored bytes. The buffer that each is lent is a part of a page: `guard` bytes stand in front of it, and
--- some behind. Every byte of the page is the filler before.
+-- What the report of a map file and the C calls leave, held against stored bytes. The buffer that each is lent is a part of a page (crates/stored_page/specs/Page.antt).
 --
--- A stored call is its arguments, the buffer's length 1, the answer's number 1, and the page's bytes from the buffer's start on, as many as an answer has; refused, these are the
--- filler. For a set-point it is 50 bytes: the arguments are s 8 and t 8, and 32 stand at the end. For a cell it is 20: the cell 1, and 17 at the end.
-use Prim.Native.Nat.{ℕ, _+_, _-_}
+-- A stored call (Call.antt, beside it) for a set-point is 50 bytes: the arguments are s 8 and t 8, and 32 stand at the end. One for a cell is 20: the cell 1, and 17 at the end.
+use Prim.Native.Nat.{ℕ}
 use mathlib.Core.Bool.{Bool, false, cond, _&&_}
-use mathlib.Core.List.{List, _++_}
+use mathlib.Core.List.{List}
 use lib.Dec.{eqb, ltb}
-use lib.ListN.{length, take, drop}
+use lib.ListN.{length}
 use Rattle.big_endian.specs.BigEndian.{byteAt, numberAt}
 use Rattle.big_endian.specs.Written.{written}
 use Rattle.gatemap_host.specs.CellCall.{hostCellNumber, hostCellBuffer}
 use Rattle.gatemap_host.specs.SetPoint.{hostNumber, hostBuffer}
 use Rattle.report.specs.Report.{reportOf}
-use Rattle.stored_page.specs.Page.{guard, holds}
-
--- ---- a page
--- the buffer that ends at a place, and the page with other bytes in the buffer's place
-abbrev pub bufferOf : List ℕ → ℕ → List ℕ
-bufferOf page end = take (end - guard) (drop guard page)
-
-abbrev pub pageWith : List ℕ → ℕ → List ℕ → List ℕ
-pageWith page end buffer = take guard page ++ (buffer ++ drop (end - guard) (drop guard page))
+use Rattle.stored_page.specs.Call.{bufferEnd, storedAnswer, answerIsRight, whereWhole}
+use Rattle.stored_page.specs.Page.{bufferOf, pageWith, holds}
 
 -- ---- the report
 -- whether a file's report, in a buffer that ends at a place, is the text stored
@@ -31,23 +22,6 @@ reportsRight file text end page =
 
 unfoldable pub textIsRight : List ℕ → List ℕ → ℕ → List ℕ → Bool
 textIsRight file text end page = cond (ltb (length page) end) false (reportsRight file text end page)
-
--- ---- a C call
--- where the buffer of a call ends, whose length stands at a place
-abbrev pub bufferEnd : List ℕ → ℕ → ℕ
-bufferEnd call roomAt = guard + byteAt call roomAt
-
--- what is stored of the answer, from a place on to the call's end
-abbrev pub storedAnswer : List ℕ → ℕ → ℕ → List ℕ
-storedAnswer call at end = take (end - at) (drop at call)
-
--- whether a number is the first byte stored, and a page holds those behind
-abbrev pub answerIsRight : ℕ → List ℕ → List ℕ → Bool
-answerIsRight number page stored = eqb number (byteAt stored 0) && holds page (drop 1 stored)
-
--- a call that is stored in so many bytes, with a buffer that ends at a place of the page, is wrong where either has fewer
-unfoldable pub whereWhole : ℕ → List ℕ → ℕ → List ℕ → Bool → Bool
-whereWhole bytes call end page right = cond (ltb (length call) bytes) false (cond (ltb (length page) end) false right)
 
 -- ---- a set-point
 abbrev pub tAt : ℕ

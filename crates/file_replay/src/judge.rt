@@ -1,9 +1,8 @@
 // The report of a file and the answers of the C calls, held against stored bytes. Each is given a part of a page of fillers, and the whole page is looked at afterwards.
 ghost use mathlib.Core.Path.{_≡_};
 ghost use Prim.Native.Nat.{_≤_};
-ghost use Rattle.file_replay.specs.Judged.{textIsRight, answerIsRight, callIsRight, cellCallIsRight};
+ghost use Rattle.file_replay.specs.Judged.{textIsRight, callIsRight, cellCallIsRight};
 ghost use Rattle.stored_page.specs.Page.{guard};
-use big_endian::after;
 use big_endian::byte_at;
 use big_endian::number_at;
 use control_point::sides::wide;
@@ -12,6 +11,7 @@ use gatemap_host::gatemap_set_point;
 use report::report;
 use stored_calls::points::both;
 use stored_page::GUARD;
+use stored_page::answer_is_right;
 use stored_page::page_holds;
 
 // The bytes of a stored call for a set-point, and where its parts stand.
@@ -40,16 +40,6 @@ pub fn text_is_right(file: &[u8], text: &[u8], end: usize, page: &mut [u8]) -> b
     }
     let length = report(file, &mut page[GUARD..end]);
     both(length == text.len(), page_holds(page, text))
-}
-
-// Whether a call's number is the first byte stored, and its page holds those behind.
-fn answer_is_right(number: u64, page: &[u8], stored: &[u8]) -> bool
-    ensures { λ r. ⌜ r ≡ answerIsRight number (now (page .entry)) (now (stored .entry)) ⌝ }
-{
-    both(
-        number == byte_at(stored, 0) as u64,
-        page_holds(page, after(stored, 1)),
-    )
 }
 
 // Whether the C call for a set-point answers with a file what a stored call says.

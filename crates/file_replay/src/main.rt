@@ -12,11 +12,13 @@ use big_endian::after;
 use big_endian::byte_at;
 use big_endian::pair_at;
 use control_point::sides::wide;
+use replay::CaseRead;
 use replay::Outcome;
 use replay::Tally;
 use replay::count_outcome;
 use replay::is_end;
 use replay::outcome_of;
+use replay::read_case;
 use stored_calls::points::both;
 use stored_page::FILLER;
 
@@ -108,14 +110,6 @@ fn is_right(case: &[u8]) -> bool {
     behind_is_right(&rest[0..length], after(rest, length))
 }
 
-// Fills so many bytes of a buffer, or says that there are no more.
-fn fill(descriptor: i32, buffer: &mut [u8], bytes: usize) -> bool {
-    if bytes <= buffer.len() {
-        return io::read_full(descriptor, &mut buffer[0..bytes]) == bytes;
-    }
-    false
-}
-
 fn judged(buffer: &[u8], bytes: usize) -> Outcome {
     if bytes <= buffer.len() {
         return outcome_of(is_right(&buffer[0..bytes]));
@@ -125,20 +119,12 @@ fn judged(buffer: &[u8], bytes: usize) -> Outcome {
 
 // The next case, judged; one that the file ends within is wrong.
 fn next_outcome(descriptor: i32) -> Outcome {
-    let mut length = [0u8; 2];
     let mut case = io::large_buffer();
-    let read = io::read_full(descriptor, &mut length);
-    if read == 0 {
-        return Outcome::End;
+    match read_case(descriptor, &mut case) {
+        CaseRead::End => Outcome::End,
+        CaseRead::Part => Outcome::Wrong,
+        CaseRead::Whole(bytes) => judged(&case, bytes),
     }
-    if read < 2 {
-        return Outcome::Wrong;
-    }
-    let bytes = pair_at(&length, 0);
-    if !fill(descriptor, &mut case, bytes) {
-        return Outcome::Wrong;
-    }
-    judged(&case, bytes)
 }
 
 fn replayed(descriptor: i32) -> Tally {

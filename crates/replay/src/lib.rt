@@ -1,6 +1,7 @@
-// What the programs that replay stored cases share: the file of cases, the count of outcomes, and the report.
+// What the programs that replay stored cases share: the file of cases, the reading of one, the count of outcomes, and the report.
 ghost use mathlib.Core.Path.{_≡_};
 ghost use Rattle.replay.specs.Tally.{oneMore, counted, isEnd, outcomeOf};
+use big_endian::pair_at;
 use libc::STDOUT_FILENO;
 
 // What came of a case.
@@ -8,6 +9,13 @@ pub enum Outcome {
     Right,
     Wrong,
     End,
+}
+
+// What was read of a case into a buffer: nothing, where the cases have ended; too little, where they end within it or it has no room; or all, in so many bytes.
+pub enum CaseRead {
+    End,
+    Part,
+    Whole(usize),
 }
 
 // How many cases came out right, and how many wrong.
@@ -70,6 +78,31 @@ pub fn open_cases() -> i32 {
         os::fail(path);
     }
     descriptor
+}
+
+// Fills so many bytes of a buffer, or says that there are no more.
+fn fill(descriptor: i32, buffer: &mut [u8], bytes: usize) -> bool {
+    if bytes <= buffer.len() {
+        return io::read_full(descriptor, &mut buffer[0..bytes]) == bytes;
+    }
+    false
+}
+
+// Reads the next case of those that begin with two bytes for their length.
+pub fn read_case(descriptor: i32, buffer: &mut [u8]) -> CaseRead {
+    let mut length = [0u8; 2];
+    let read = io::read_full(descriptor, &mut length);
+    if read == 0 {
+        return CaseRead::End;
+    }
+    if read < 2 {
+        return CaseRead::Part;
+    }
+    let bytes = pair_at(&length, 0);
+    if fill(descriptor, buffer, bytes) {
+        return CaseRead::Whole(bytes);
+    }
+    CaseRead::Part
 }
 
 pub fn report(tally: Tally) {

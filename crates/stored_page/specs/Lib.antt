@@ -1,2 +1,4 @@
+pub mod Call
+pub mod CallLaws
 pub mod Page
 pub mod PageLaws

@@ -1,6 +1,9 @@
 // A page of fillers, held against what a call should have left in its buffer, which is a part of the page.
 ghost use mathlib.Core.Path.{_≡_};
+ghost use Rattle.stored_page.specs.Call.{answerIsRight};
 ghost use Rattle.stored_page.specs.Page.{expectedByte, holds};
+use big_endian::after;
+use big_endian::byte_at;
 use stored_calls::points::both;
 
 // What every byte of a page is before.
@@ -34,4 +37,14 @@ pub fn page_holds(page: &[u8], held: &[u8]) -> bool
         n += 1;
     }
     right
+}
+
+// Whether a call's number is the first byte stored, and its page holds those behind.
+pub fn answer_is_right(number: u64, page: &[u8], stored: &[u8]) -> bool
+    ensures { λ r. ⌜ r ≡ answerIsRight number (now (page .entry)) (now (stored .entry)) ⌝ }
+{
+    both(
+        number == byte_at(stored, 0) as u64,
+        page_holds(page, after(stored, 1)),
+    )
 }

@@ -1,7 +1,13 @@
 -- `call_is_right` meets its contract: the page after the call is the page with what the call leaves in the buffer's place.
+use Prim.Native.Nat.{ℕ, _+_}
+use mathlib.Core.Path.{ap₂, _∙_}
 use borrow.Author.Needs.{needs}
-use Rattle.file_replay.specs.Judged.{bufferEnd, roomAt, callBytes, answersRight}
-use Rattle.file_replay.specs.JudgedLaws.{call-short, call-no-room, call-judged}
+use Rattle.big_endian.specs.BigEndian.{numberAt}
+use Rattle.gatemap_host.specs.SetPoint.{hostNumber, hostBuffer}
+use Rattle.file_replay.specs.Judged.{tAt, roomAt, answerAt, callBytes}
+use Rattle.stored_page.specs.Call.{storedAnswer}
+use Rattle.stored_page.specs.CallLaws.{call-short, call-no-room, call-answered}
+use Rattle.stored_page.specs.Page.{guard, bufferOf}
 use Rattle.file_replay.proofs.judge.call_is_right.Statement.{statement}
 use Rattle.file_replay.proofs.judge.call_is_right.Tie as tie
 
@@ -55,11 +61,22 @@ same-length c = search needs
 
 returns-3 : tie.Need-returns-3
 returns-3 c =
-    let tested = c .before .before .before .before .before .before .before .before .before in
-    let args = tested .before .before .before .before .before .before .before .args in
-    let room = rw (tested .before .wide .ensures, tested .before .before .byte-at .ensures) at (tested .if2 .left) in
-    let end = bufferEnd (args .call .now) roomAt in
-    cc (call-judged callBytes (args .call .now) end (args .page .now) (answersRight (args .file .now) (args .call .now) end (args .page .now)) (tested .before .before .before .if1 .left) room)
+    let called = c .before .before .before .before .before in
+    let t = called .before .before .number-at2 .ensures in
+    let s = called .before .before .before .number-at .ensures in
+    let tested = called .before .before .before .before in
+    let a = tested .before .before .before .before .before .before .before .args in
+    let lent = bufferOf (a .page .now) (guard + tested .before .wide .result) in
+    c .answer-is-right .ensures
+    ∙ call-answered callBytes roomAt (a .call .now) (a .page .now) (storedAnswer (a .call .now) answerAt callBytes)
+    (hostNumber (a .file .now) (numberAt 8 (a .call .now) 0) (numberAt 8 (a .call .now) tAt))
+    (hostBuffer (a .file .now) (numberAt 8 (a .call .now) 0) (numberAt 8 (a .call .now) tAt))
+    _ _ _
+    (tested .before .before .before .if1 .left)
+    (tested .if2 .left)
+    (tested .before .wide .ensures ∙ tested .before .before .byte-at .ensures)
+    (called .gatemap-set-point .ensures .0 ∙ ap₂ (λ (x y : ℕ). hostNumber (a .file .now) x y lent) s t)
+    (called .gatemap-set-point .ensures .1 .0 ∙ ap₂ (λ (x y : ℕ). hostBuffer (a .file .now) x y lent) s t)
 
 pub call-is-right-spec : {M : Type 1} → statement M
 call-is-right-spec =

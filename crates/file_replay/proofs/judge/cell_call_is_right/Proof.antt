@@ -1,7 +1,13 @@
 -- `cell_call_is_right` meets its contract: the page after the call is the page with what the call leaves in the buffer's place.
+use Prim.Native.Nat.{ℕ, _+_}
+use mathlib.Core.Path.{ap, _∙_}
 use borrow.Author.Needs.{needs}
-use Rattle.file_replay.specs.Judged.{bufferEnd, cellRoomAt, cellCallBytes, cellAnswersRight}
-use Rattle.file_replay.specs.JudgedLaws.{call-short, call-no-room, call-judged}
+use Rattle.big_endian.specs.BigEndian.{byteAt}
+use Rattle.gatemap_host.specs.CellCall.{hostCellNumber, hostCellBuffer}
+use Rattle.file_replay.specs.Judged.{cellRoomAt, cellAnswerAt, cellCallBytes}
+use Rattle.stored_page.specs.Call.{storedAnswer}
+use Rattle.stored_page.specs.CallLaws.{call-short, call-no-room, call-answered}
+use Rattle.stored_page.specs.Page.{guard, bufferOf}
 use Rattle.file_replay.proofs.judge.cell_call_is_right.Statement.{statement}
 use Rattle.file_replay.proofs.judge.cell_call_is_right.Tie as tie
 
@@ -52,11 +58,21 @@ same-length c = search needs
 
 returns-3 : tie.Need-returns-3
 returns-3 c =
-    let tested = c .before .before .before .before .before .before .before .before in
-    let args = tested .before .before .before .before .before .before .before .args in
-    let room = rw (tested .before .wide .ensures, tested .before .before .byte-at .ensures) at (tested .if2 .left) in
-    let end = bufferEnd (args .call .now) cellRoomAt in
-    cc (call-judged cellCallBytes (args .call .now) end (args .page .now) (cellAnswersRight (args .file .now) (args .call .now) end (args .page .now)) (tested .before .before .before .if1 .left) room)
+    let called = c .before .before .before .before .before in
+    let cell = called .before .before .byte-at2 .ensures in
+    let tested = called .before .before .before in
+    let a = tested .before .before .before .before .before .before .before .args in
+    let lent = bufferOf (a .page .now) (guard + tested .before .wide .result) in
+    c .answer-is-right .ensures
+    ∙ call-answered cellCallBytes cellRoomAt (a .call .now) (a .page .now) (storedAnswer (a .call .now) cellAnswerAt cellCallBytes)
+    (hostCellNumber (a .file .now) (byteAt (a .call .now) 0))
+    (hostCellBuffer (a .file .now) (byteAt (a .call .now) 0))
+    _ _ _
+    (tested .before .before .before .if1 .left)
+    (tested .if2 .left)
+    (tested .before .wide .ensures ∙ tested .before .before .byte-at .ensures)
+    (called .gatemap-cell .ensures .0 ∙ ap (λ (n : ℕ). hostCellNumber (a .file .now) n lent) cell)
+    (called .gatemap-cell .ensures .1 .0 ∙ ap (λ (n : ℕ). hostCellBuffer (a .file .now) n lent) cell)
 
 pub cell-call-is-right-spec : {M : Type 1} → statement M
 cell-call-is-right-spec =

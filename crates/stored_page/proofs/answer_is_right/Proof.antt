@@ -1,8 +1,8 @@
 -- `answer_is_right` meets its contract: a number, and a page.
 use mathlib.Core.Path.{refl}
 use borrow.Author.Needs.{needs}
-use Rattle.file_replay.proofs.judge.answer_is_right.Statement.{statement}
-use Rattle.file_replay.proofs.judge.answer_is_right.Tie as tie
+use Rattle.stored_page.proofs.answer_is_right.Statement.{statement}
+use Rattle.stored_page.proofs.answer_is_right.Tie as tie
 
 byte-at-requires : tie.Need-byte-at-requires
 byte-at-requires c κs = search needs
