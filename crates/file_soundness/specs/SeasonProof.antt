@@ -16,7 +16,7 @@ use Rattle.counted_file.specs.declared.FileCheck.{FileCheck}
 use Rattle.counted_file.specs.declared.FileCheck.the-variants.{Valid, Refused as Invalid}
 use Rattle.counting.specs.BoolLaws.{cond-case}
 use Rattle.gatemap_host.specs.SeasonCall.{mapBytes, hostSeason, seasonBufferAfter}
-use Rattle.season.specs.Season.{windowOf, windowCount, seasonLengthRight, daysWrong, seasonVersionRight, clashes, checkedSeason, someHolds, mapOf, seasonMap, seasonNumber}
+use Rattle.season.specs.Season.{windowOf, windowCount, seasonLengthRight, daysWrong, seasonVersionRight, clashes, checkedSeason, someHolds, checkedMap, seasonMap, seasonNumber}
 use Rattle.season.specs.SeasonLaws.{valid-tells}
 use Rattle.season.specs.TheoremsProof.{one-holds, map-answered}
 use Rattle.season.specs.declared.SeasonAnswer.{SeasonAnswer}
@@ -31,7 +31,7 @@ abbrev Named : SeasonAnswer → Type 0
 Named answer = OneOf (seasonNumber answer) (0 ∷ (12 ∷ (13 ∷ (16 ∷ (18 ∷ (19 ∷ []))))))
 
 abbrev NamedOf : List ℕ → ℕ → FileCheck → Type 0
-NamedOf season minute check = Named (mapOf season minute check)
+NamedOf season minute check = Named (checkedMap season minute check)
 
 map-named : (season : List ℕ) (minute : ℕ) → Named (seasonMap season minute)
 unfolding checkedSeason
@@ -57,8 +57,8 @@ season-numbers-named season minute out =
 
 -- ---- the byte
 -- what it is to say which window holds
-abbrev Says : List ℕ → ℕ → ℕ → Type 0
-Says season minute byte =
+abbrev SaysWindow : List ℕ → ℕ → ℕ → Type 0
+SaysWindow season minute byte =
     (i : ℕ)
     × (i < windowCount season)
     × Holds (windowOf season i) minute
@@ -67,7 +67,7 @@ Says season minute byte =
 
 module _ (season : List ℕ) (minute : ℕ) (bits : minute < 2 ^ 32) where
   -- a map that is answered is that of the one window that holds
-  map-says : (map : ℕ) → seasonMap season minute ≡ Is map → (check : FileCheck) → checkedSeason season ≡ check → Says season minute map
+  map-says : (map : ℕ) → seasonMap season minute ≡ Is map → (check : FileCheck) → checkedSeason season ≡ check → SaysWindow season minute map
   map-says map is (Valid n) valid =
       let found = map-answered season n valid minute map bits .0 is in
       let i = found .0 in
@@ -78,19 +78,19 @@ module _ (season : List ℕ) (minute : ℕ) (bits : minute < 2 ^ 32) where
         sym (found .3),
         λ j below holds. one-holds season n valid minute j i bits (subst (λ (k : ℕ). j < k) count below) (found .1) holds (found .2),
       )
-  map-says map is (Invalid refusal) refused = absurd (numbered refusal (ap seasonNumber (sym (ap (mapOf season minute) refused) ∙ is)))
+  map-says map is (Invalid refusal) refused = absurd (numbered refusal (ap seasonNumber (sym (ap (checkedMap season minute) refused) ∙ is)))
 
   -- what the buffer holds, by the answer
   buffer-says : (answer : SeasonAnswer) (out : List ℕ) → seasonMap season minute ≡ answer → mapBytes ≤ length out → seasonNumber answer ≡ 0
-      → Says season minute (byteAt (seasonBufferAfter answer out) 0)
+      → SaysWindow season minute (byteAt (seasonBufferAfter answer out) 0)
   unfolding written
   buffer-says (Is map) out is room done =
-      subst (Says season minute) (sym (getD-set-same out 0 map 0 (omega (arith, room)))) (map-says map is (checkedSeason season) refl)
+      subst (SaysWindow season minute) (sym (getD-set-same out 0 map 0 (omega (arith, room)))) (map-says map is (checkedSeason season) refl)
   buffer-says (Refused refusal) out is room done = absurd (numbered refusal done)
 
   -- with room for the byte or without
   with-room : (enough : Bool) (out : List ℕ) → leb mapBytes (length out) ≡ enough → seasonNumber (cond enough (seasonMap season minute) (Refused Short)) ≡ 0
-      → Says season minute (byteAt (seasonBufferAfter (cond enough (seasonMap season minute) (Refused Short)) out) 0)
+      → SaysWindow season minute (byteAt (seasonBufferAfter (cond enough (seasonMap season minute) (Refused Short)) out) 0)
   with-room true out room done = buffer-says (seasonMap season minute) out refl (leb-true mapBytes (length out) room) done
   with-room false out room done = absurd (numbered Short done)
 

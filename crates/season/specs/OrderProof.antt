@@ -17,7 +17,7 @@ use Rattle.counting.specs.SomeLaws.{some-tells, some-shows}
 use Rattle.season_window.specs.Theorems.{Holds, Ever, Together}
 use Rattle.season_window.specs.Window.{pastDay, holdsAt}
 use Rattle.season_window.specs.declared.Window.{Window}
-use Rattle.season.specs.Season.{windowsAt, windowBytes, versionAt, theVersion, windowOf, windowCount, seasonLengthRight, daysWrong, seasonVersionRight, clashes, checkedSeason, someHolds, mapOf, seasonMap}
+use Rattle.season.specs.Season.{windowsAt, windowBytes, versionAt, theVersion, windowOf, windowCount, seasonLengthRight, daysWrong, seasonVersionRight, clashes, checkedSeason, someHolds, checkedMap, seasonMap}
 use Rattle.season.specs.SeasonLaws.{valid-tells}
 use Rattle.season.specs.Theorems.{Clashing, Reordered, OrderUnseen}
 use Rattle.season.specs.TheoremsProof.{clash-tells, clash-shows, holding-found, map-of-holding, map-of-none}
@@ -150,4 +150,4 @@ order-unseen season other r = (same-check season other r, λ m bits. by-check m 
   where
     by-check : (m : ℕ) → m < 2 ^ 32 → (check : FileCheck) → checkedSeason season ≡ check → seasonMap season m ≡ seasonMap other m
     by-check m bits (Valid n) valid = same-valid season other r m n bits valid
-    by-check m bits (Invalid refusal) refused = ap (mapOf season m) refused ∙ sym (ap (mapOf other m) (sym (same-check season other r) ∙ refused))
+    by-check m bits (Invalid refusal) refused = ap (checkedMap season m) refused ∙ sym (ap (checkedMap other m) (sym (same-check season other r) ∙ refused))

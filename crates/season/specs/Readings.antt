@@ -50,7 +50,7 @@ pub record SeasonReadings : Type 0 where
   -- windows that share one minute, in either order, clash
   pub one-minute : checkedSeason (seasonOf 1 (window 0 0 43561 0 1440 ∷ (window 1 43200 4294967295 360 1320 ∷ []))) ≡ Invalid Clash
   pub one-minute-back : checkedSeason (seasonOf 1 (window 1 43200 4294967295 360 1320 ∷ (window 0 0 43561 0 1440 ∷ []))) ≡ Invalid Clash
-  -- and so do windows that share days but no minute of the day not
+  -- windows that share days and no minute of the day do not
   pub by-day : checkedSeason (seasonOf 1 (window 0 0 43200 0 720 ∷ (window 1 0 43200 720 1440 ∷ []))) ≡ Valid 2
   -- a window that can hold in no minute: no part of the day, a span that misses its part of the day, no span
   pub no-part : checkedSeason (seasonOf 1 (window 0 0 43200 360 360 ∷ [])) ≡ Invalid Clash

@@ -18,7 +18,7 @@ use Rattle.season_window.specs.Decision.{common, decided}
 use Rattle.season_window.specs.DecisionLaws.{decided-right, decided-together}
 use Rattle.season_window.specs.Window.{holdsAt, canHold, holdTogether}
 use Rattle.season.specs.Readings.{seasonOf, frost, SeasonReadings}
-use Rattle.season.specs.Season.{windowOf, windowCount, seasonLengthRight, daysWrong, seasonVersionRight, holdsWithOne, clashes, checkedSeason, mapOf, mapAmong, seasonMap}
+use Rattle.season.specs.Season.{windowOf, windowCount, seasonLengthRight, daysWrong, seasonVersionRight, holdsWithOne, clashes, checkedSeason, checkedMap, mapAmong, seasonMap}
 use Rattle.season.specs.declared.SeasonAnswer.{SeasonAnswer}
 use Rattle.season.specs.declared.SeasonAnswer.the-variants.{Is, Refused}
 
@@ -74,38 +74,38 @@ closed-by season n none i below =
     same-none false over = ltb-false (2 ^ 32) (windowOf season i .closing) over
 
 -- a check that is computed
-read : (season : List ℕ) (check : FileCheck) → someBelow (windowCount season) (λ i. ltb (2 ^ 32) (windowOf season i .closing)) ≡ false → decidedSeason season ≡ check → checkedSeason season ≡ check
-read season check closed is = sym (season-decided season (closed-by season (windowCount season) closed)) ∙ is
+computed : (season : List ℕ) (check : FileCheck) → someBelow (windowCount season) (λ i. ltb (2 ^ 32) (windowOf season i .closing)) ≡ false → decidedSeason season ≡ check → checkedSeason season ≡ check
+computed season check closed is = sym (season-decided season (closed-by season (windowCount season) closed)) ∙ is
 
 frost-accepted : checkedSeason frost ≡ Valid 2
 unfolding decidedSeason countedRight common windowOf numberAt bytesOf someBelow
-frost-accepted = read frost (Valid 2) refl refl
+frost-accepted = computed frost (Valid 2) refl refl
 
 -- the answer of the first season at a minute
-at : (m : ℕ) (answer : SeasonAnswer) → mapAmong frost m 2 ≡ answer → seasonMap frost m ≡ answer
-at m answer is = ap (mapOf frost m) frost-accepted ∙ is
+frost-at : (m : ℕ) (answer : SeasonAnswer) → mapAmong frost m 2 ≡ answer → seasonMap frost m ≡ answer
+frost-at m answer is = ap (checkedMap frost m) frost-accepted ∙ is
 
 pub season-readings : SeasonReadings
 unfolding decidedSeason countedRight common windowOf numberAt bytesOf someBelow lastBelow holdsAt
 season-readings =
     record {
       accepted = frost-accepted;
-      other-order = read _ (Valid 2) refl refl;
-      opened = at 0 (Is 0) refl;
-      not-closed = at 43199 (Is 0) refl;
-      night = at 43559 (Refused Shut) refl;
-      morning = at 43560 (Is 1) refl;
-      evening = at 44519 (Is 1) refl;
-      late = at 44520 (Refused Shut) refl;
-      last-minute = at 4294967295 (Refused Shut) refl;
-      none = read _ (Valid 0) refl refl;
-      none-shut = ap (mapOf (seasonOf 1 []) 0) (read (seasonOf 1 []) (Valid 0) refl refl) ∙ refl;
-      one-minute = read _ (Invalid Clash) refl refl;
-      one-minute-back = read _ (Invalid Clash) refl refl;
-      by-day = read _ (Valid 2) refl refl;
-      no-part = read _ (Invalid Clash) refl refl;
-      missed = read _ (Invalid Clash) refl refl;
-      no-span = read _ (Invalid Clash) refl refl;
-      past-day = read _ (Invalid Length) refl refl;
-      version = read _ (Invalid Version) refl refl;
+      other-order = computed _ (Valid 2) refl refl;
+      opened = frost-at 0 (Is 0) refl;
+      not-closed = frost-at 43199 (Is 0) refl;
+      night = frost-at 43559 (Refused Shut) refl;
+      morning = frost-at 43560 (Is 1) refl;
+      evening = frost-at 44519 (Is 1) refl;
+      late = frost-at 44520 (Refused Shut) refl;
+      last-minute = frost-at 4294967295 (Refused Shut) refl;
+      none = computed _ (Valid 0) refl refl;
+      none-shut = ap (checkedMap (seasonOf 1 []) 0) (computed (seasonOf 1 []) (Valid 0) refl refl) ∙ refl;
+      one-minute = computed _ (Invalid Clash) refl refl;
+      one-minute-back = computed _ (Invalid Clash) refl refl;
+      by-day = computed _ (Valid 2) refl refl;
+      no-part = computed _ (Invalid Clash) refl refl;
+      missed = computed _ (Invalid Clash) refl refl;
+      no-span = computed _ (Invalid Clash) refl refl;
+      past-day = computed _ (Invalid Length) refl refl;
+      version = computed _ (Invalid Version) refl refl;
     }

@@ -118,12 +118,12 @@ abbrev pub mapAmong : List ℕ → ℕ → ℕ → SeasonAnswer
 mapAmong season minute count = cond (someHolds season minute count) (Is (mapHeld season minute count)) (Refused Shut)
 
 -- the season's own refusal first
-abbrev pub mapOf : List ℕ → ℕ → FileCheck → SeasonAnswer
-mapOf season minute (Valid count) = mapAmong season minute count
-mapOf season minute (Invalid refusal) = Refused refusal
+abbrev pub checkedMap : List ℕ → ℕ → FileCheck → SeasonAnswer
+checkedMap season minute (Valid count) = mapAmong season minute count
+checkedMap season minute (Invalid refusal) = Refused refusal
 
 abbrev pub seasonMap : List ℕ → ℕ → SeasonAnswer
-seasonMap season minute = mapOf season minute (checkedSeason season)
+seasonMap season minute = checkedMap season minute (checkedSeason season)
 
 -- ---- what is told
 -- the map number, or the refusal's

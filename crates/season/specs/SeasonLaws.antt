@@ -24,7 +24,7 @@ use Rattle.season_window.specs.Window.{holdsAt, canHold}
 use Rattle.season_window.specs.declared.Window.{Window}
 use Rattle.season.specs.declared.SeasonAnswer.{SeasonAnswer}
 use Rattle.season.specs.declared.SeasonAnswer.the-variants.{Is, Refused}
-use Rattle.season.specs.Season.{windowsAt, windowBytes, mostWindows, closingIn, mapIn, firstIn, lastIn, windowAt, windowOf, windowCount, seasonLengthRight, daysWrong, seasonVersionRight, holdsWithOne, clashes, checkedSeason, someHolds, mapHeld, mapAmong, mapOf, seasonMap, seasonTold, whereSeason, checkTable, mapTable}
+use Rattle.season.specs.Season.{windowsAt, windowBytes, mostWindows, closingIn, mapIn, firstIn, lastIn, windowAt, windowOf, windowCount, seasonLengthRight, daysWrong, seasonVersionRight, holdsWithOne, clashes, checkedSeason, someHolds, mapHeld, mapAmong, checkedMap, seasonMap, seasonTold, whereSeason, checkTable, mapTable}
 
 -- ---- what stands after the first bytes stands in all bytes, that many places on
 window-after : (season : List ℕ) (count at : ℕ) → windowAt (drop count season) at ≡ windowAt season (count + at)
@@ -131,7 +131,7 @@ valid-tells season n valid =
 
 pub map-told : (season : List ℕ) (minute : ℕ) → seasonTold (seasonMap season minute) ≡ mapTable season minute
 map-told season minute =
-    where-season-told season (λ (check : FileCheck). seasonTold (mapOf season minute check)) (λ refusal. refl)
+    where-season-told season (λ (check : FileCheck). seasonTold (checkedMap season minute check)) (λ refusal. refl)
     ∙ ap (whereSeason season) (by-test (someHolds season minute (windowCount season)))
   where
     by-test : (some : Bool) → seasonTold (cond some (Is (mapHeld season minute (windowCount season))) (Refused Shut))

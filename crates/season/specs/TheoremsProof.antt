@@ -19,7 +19,7 @@ use Rattle.season_window.specs.Theorems.{Holds, Ever, Together}
 use Rattle.season_window.specs.TheoremsProof.{holds-as-written, can-hold-is-ever, hold-together-is-together}
 use Rattle.season_window.specs.Window.{holdsAt, canHold, holdTogether}
 use Rattle.season_window.specs.declared.Window.{Window}
-use Rattle.season.specs.Season.{windowOf, windowCount, seasonLengthRight, daysWrong, seasonVersionRight, holdsWithOne, clashes, checkedSeason, someHolds, mapHeld, mapAmong, mapOf, seasonMap}
+use Rattle.season.specs.Season.{windowOf, windowCount, seasonLengthRight, daysWrong, seasonVersionRight, holdsWithOne, clashes, checkedSeason, someHolds, mapHeld, mapAmong, checkedMap, seasonMap}
 use Rattle.season.specs.SeasonLaws.{valid-tells}
 use Rattle.season.specs.Theorems.{Readable, Clashing, ClashIsExistence, OneHolds, EachHolds, MapAnswered, ShutAnswered}
 use Rattle.season.specs.declared.SeasonAnswer.the-variants.{Is, Refused}
@@ -118,7 +118,7 @@ abbrev holding : List ℕ → ℕ → ℕ → Bool
 holding season m i = holdsAt (windowOf season i) m
 
 known : (season : List ℕ) (n m : ℕ) → checkedSeason season ≡ Valid n → seasonMap season m ≡ mapAmong season m n
-known season n m valid = ap (mapOf season m) valid
+known season n m valid = ap (checkedMap season m) valid
 
 -- the map of a window that holds is the answer
 pub map-of-holding : (season : List ℕ) (n : ℕ) → checkedSeason season ≡ Valid n → (m i : ℕ) → m < 2 ^ 32 → i < n → Holds (windowOf season i) m → seasonMap season m ≡ Is (windowOf season i .map)

@@ -4,7 +4,7 @@ use mathlib.Core.Path.{_≡_, sym, ap, _∙_}
 use mathlib.Core.List.{List}
 use borrow.Author.Needs.{needs}
 use Rattle.control_point.specs.ToldLaws.{beside}
-use Rattle.season.specs.Season.{mapOf, seasonMap, seasonTold, mapTable}
+use Rattle.season.specs.Season.{checkedMap, seasonMap, seasonTold, mapTable}
 use Rattle.season.specs.SeasonLaws.{valid-tells, map-told}
 use Rattle.season.specs.declared.SeasonAnswer.{SeasonAnswer}
 use Rattle.season.proofs.season_map.Statement.{statement}
@@ -33,14 +33,14 @@ returns c =
     let known = c .before .before in
     let asked = known .before .before in
     let a = asked .before .before .args in
-    told _ _ _ (c .map-among .ensures ∙ ap (mapOf (a .season .now) (a .minute)) (sym (sym (asked .check-season .ensures .0) ∙ known .count .given .1)))
+    told _ _ _ (c .map-among .ensures ∙ ap (checkedMap (a .season .now) (a .minute)) (sym (sym (asked .check-season .ensures .0) ∙ known .count .given .1)))
 
 returns-2 : tie.Need-returns-2
 returns-2 c =
     let known = c .before in
     let asked = known .before .before in
     let a = asked .before .before .args in
-    told _ _ _ (ap (mapOf (a .season .now) (a .minute)) (sym (sym (asked .check-season .ensures .0) ∙ known .refusal .given .1)))
+    told _ _ _ (ap (checkedMap (a .season .now) (a .minute)) (sym (sym (asked .check-season .ensures .0) ∙ known .refusal .given .1)))
 
 pub season-map-spec : {M : Type 1} → statement M
 season-map-spec =
