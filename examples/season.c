@@ -48,10 +48,10 @@ int main(int argc, char **argv)
     unsigned long long minute;
     double s, t;
     size_t length;
-    uint8_t map[GATEMAP_MAP_BYTES];
+    uint8_t map[GATEMAP_MAP_NUMBER_BYTES];
 
     if (argc <= MAPS || !read_natural(argv[MINUTE], UINT32_MAX, &minute) || !read_number(argv[S], &s) || !read_number(argv[T], &t)) {
-        fprintf(stderr, "usage: season SEASON MINUTE S T MAP..., with a whole number from 0 to 4294967295, then S and T as decimal numbers\n");
+        fprintf(stderr, "usage: season SEASON MINUTE S T MAP..., with MINUTE a whole number from 0 to 4294967295, and S and T decimal numbers\n");
         return UNUSABLE;
     }
     if (!read_file(argv[SEASON], season, sizeof season, &length))

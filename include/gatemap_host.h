@@ -17,8 +17,9 @@
  *
  * `rt staticlib gatemap_host` writes the archive, target/staticlib/libgatemap_host.a,
  * for x86-64 Linux. It links with gcc or clang and needs nothing but the C
- * library (memcpy, memset). examples/host.c is a whole program, and
- * examples/season.c one that takes the map that a season has at a minute.
+ * library (memcpy, memset). examples/host.c (with examples/common.h) is
+ * a whole program, and examples/season.c one that takes the map that a season has
+ * at a minute.
  *
  * The host sees to this, in every call; what is said of file holds for season too:
  *  - file and out each point to as many bytes as their length says, and the two
@@ -50,7 +51,7 @@ enum {
     /* What a value takes in the buffer, what a cell does, and what a map number does. */
     GATEMAP_VALUE_BYTES = 32,
     GATEMAP_CELL_BYTES = 17,
-    GATEMAP_MAP_BYTES = 1,
+    GATEMAP_MAP_NUMBER_BYTES = 1,
     /* The longest map file that is not refused: 4 + 105 + 34 * 1,000 bytes. */
     GATEMAP_MOST_FILE_BYTES = 34109,
     /* The longest season file that is not refused: 4 + 1 + 13 * 64 bytes. */
@@ -83,7 +84,7 @@ enum gatemap_answer {
     GATEMAP_VERSION = 13,   /* a map file whose version is neither 1 nor 2, a season whose version is not 1 */
     GATEMAP_HEADING = 14,   /* a map file with an edit whose direction is above 3 */
     GATEMAP_NO_WEIGHT = 15, /* a weight at (s, t) that is not positive and finite */
-    GATEMAP_SHORT = 16,     /* a buffer under GATEMAP_VALUE_BYTES, GATEMAP_CELL_BYTES or GATEMAP_MAP_BYTES, by the call */
+    GATEMAP_SHORT = 16,     /* a buffer under GATEMAP_VALUE_BYTES, GATEMAP_CELL_BYTES or GATEMAP_MAP_NUMBER_BYTES, by the call */
     GATEMAP_PULL = 17,      /* a pull that is negative, infinite or not a number */
     GATEMAP_CLASH = 18,     /* a season with two windows that hold in some common minute, or with one that holds in none */
     GATEMAP_SHUT = 19       /* a minute at which no window of the season holds */

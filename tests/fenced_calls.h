@@ -118,7 +118,7 @@ struct question {
 /* What an answer takes in the buffer. */
 static size_t answer_bytes(struct question question)
 {
-    static const size_t bytes[] = {[SET_POINT] = GATEMAP_VALUE_BYTES, [CELL] = GATEMAP_CELL_BYTES, [SEASON] = GATEMAP_MAP_BYTES};
+    static const size_t bytes[] = {[SET_POINT] = GATEMAP_VALUE_BYTES, [CELL] = GATEMAP_CELL_BYTES, [SEASON] = GATEMAP_MAP_NUMBER_BYTES};
     return bytes[question.of];
 }
 

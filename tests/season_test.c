@@ -1,8 +1,8 @@
 /*
  * season_test SAMPLE [CASES]: tries the C call on a season, and says in one line how it went.
  *
- * The seasons are SAMPLE, which is samples/gin.season, and one of three windows, with every prefix and every change of one byte of both; seasons of 0 to
- * 65 windows and longer ones, also with count or length one off; one with every mixture of faults, for every length of the buffer; two windows, in either
+ * The seasons are SAMPLE, which is samples/gin.season, and one of three windows, with every prefix and every change of one byte of both; seasons of 0, 1,
+ * 63 to 66 and 5,000 windows, also with count or length one off; one with every mixture of faults, for every length of the buffer; two windows, in either
  * order, of those whose ends lie near to each other, near midnight and near the last minute that there is; 64 windows, with each one of them wrong and
  * with each two of them in one minute; and those of CASES, which is crates/season_replay/data/cases (oracle/README.md has its format).
  * A season that is not refused is asked for its map at the minutes at which one of its windows may begin or end to hold, and at the minutes before.
@@ -169,7 +169,7 @@ static struct answer due_at(const struct reading *reading, uint32_t minute, size
 {
     struct answer due = {.number = GATEMAP_SHUT};
     memset(due.bytes, FILLER, sizeof due.bytes);
-    if (room < GATEMAP_MAP_BYTES)
+    if (room < GATEMAP_MAP_NUMBER_BYTES)
         due.number = GATEMAP_SHORT;
     else if (reading->refusal != GATEMAP_DONE)
         due.number = reading->refusal;
@@ -198,7 +198,7 @@ static struct answer ask(const uint8_t *bytes, size_t length, const struct readi
 /* The season made here, asked at one minute. */
 static uint64_t ask_once(size_t length, uint32_t minute)
 {
-    return ask(season, length, read_season(season, length), minute, GATEMAP_MAP_BYTES).number;
+    return ask(season, length, read_season(season, length), minute, GATEMAP_MAP_NUMBER_BYTES).number;
 }
 
 /* At the opening and the closing of a window, and, on the days of both and of the minute before the closing, at midnight and at its first and last minute. */
@@ -209,8 +209,8 @@ static void ask_around(const uint8_t *bytes, size_t length, const struct reading
         uint32_t midnight = ends[end] - ends[end] % DAY_MINUTES;
         const uint32_t turns[] = {ends[end], midnight, midnight + window.first, midnight + window.last};
         for (size_t turn = 0; turn < sizeof turns / sizeof turns[0]; turn++) {
-            ask(bytes, length, reading, turns[turn] - 1, GATEMAP_MAP_BYTES);
-            ask(bytes, length, reading, turns[turn], GATEMAP_MAP_BYTES);
+            ask(bytes, length, reading, turns[turn] - 1, GATEMAP_MAP_NUMBER_BYTES);
+            ask(bytes, length, reading, turns[turn], GATEMAP_MAP_NUMBER_BYTES);
         }
     }
 }
@@ -219,13 +219,13 @@ static void ask_around(const uint8_t *bytes, size_t length, const struct reading
 static uint64_t try_season(const uint8_t *bytes, size_t length)
 {
     const struct reading *reading = read_season(bytes, length);
-    ask(bytes, length, reading, 0, GATEMAP_MAP_BYTES);
-    ask(bytes, length, reading, UINT32_MAX, GATEMAP_MAP_BYTES);
+    ask(bytes, length, reading, 0, GATEMAP_MAP_NUMBER_BYTES);
+    ask(bytes, length, reading, UINT32_MAX, GATEMAP_MAP_NUMBER_BYTES);
     for (int n = 0; n < reading->count; n++)
         if (reading->refusal == GATEMAP_DONE)
             ask_around(bytes, length, reading, reading->windows[n]);
         else
-            ask(bytes, length, reading, reading->windows[n].opening, GATEMAP_MAP_BYTES);
+            ask(bytes, length, reading, reading->windows[n].opening, GATEMAP_MAP_NUMBER_BYTES);
     return reading->refusal;
 }
 
@@ -297,7 +297,7 @@ static void sample_answers(size_t length)
         uint8_t map;
     } due[] = {{60839, GATEMAP_DONE, 0}, {60840, GATEMAP_DONE, 1}, {61799, GATEMAP_DONE, 1}, {61800, GATEMAP_SHUT, FILLER}};
     for (size_t i = 0; i < sizeof due / sizeof due[0]; i++) {
-        struct answer answer = ask(season, length, read_season(season, length), due[i].minute, GATEMAP_MAP_BYTES);
+        struct answer answer = ask(season, length, read_season(season, length), due[i].minute, GATEMAP_MAP_NUMBER_BYTES);
         check(answer.number == due[i].number && answer.bytes[0] == due[i].map, "the sample at minute %lu", (unsigned long)due[i].minute);
     }
 }

@@ -1,4 +1,4 @@
--- A file that begins with the count, in 4 bytes, of the bytes that follow it: a head, which the count is part of, and whole items of one size.
+-- A file that begins with the count, in 4 bytes, of the bytes that follow it: a head, which the count and a version behind it are part of, and whole items of one size.
 use Prim.Native.Nat.{ℕ, _+_, _-_, _/_, _%_}
 use mathlib.Core.Bool.{Bool, _&&_}
 use mathlib.Core.List.{List, [], _∷_}
@@ -12,6 +12,10 @@ use Rattle.counted_file.specs.declared.FileCheck.the-variants.{Valid, Re
 -- the bytes of the count
 abbrev pub countBytes : ℕ
 countBytes = 4
+
+-- where the version stands, in one byte
+abbrev pub versionAt : ℕ
+versionAt = 4
 
 -- the items that a file of this length has room for
 abbrev pub itemCount : ℕ → ℕ → List ℕ → ℕ

@@ -7,6 +7,9 @@ use control_point::refusal::Refusal;
 
 const COUNT_BYTES: usize = 4;
 
+// Where the version stands, in one byte.
+pub const VERSION_AT: usize = 4;
+
 pub enum FileCheck {
     // The count of items.
     Valid(usize),

@@ -36,3 +36,8 @@ pub same-tests : (a b : Bool) → (a ≡ true → b ≡ true) → (b ≡ true �
 same-tests true b there back = sym (there refl)
 same-tests false true there back = back refl
 same-tests false false there back = refl
+
+-- one that cannot hold does not
+pub not-held : (b : Bool) → (b ≡ true → ⊥) → b ≡ false
+not-held true h = absurd (h refl)
+not-held false h = refl

@@ -1,4 +1,4 @@
--- Counts and sums over the numbers below one, and whether some number below one passes a test.
+-- Counts and sums over the numbers below one; whether some number below one passes a test, and the last that does.
 use Prim.Native.Nat.{ℕ, zero, suc, _+_}
 use mathlib.Core.Bool.{Bool, false, cond, _||_}
 

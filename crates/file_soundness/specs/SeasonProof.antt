@@ -15,16 +15,15 @@ use Rattle.control_point.specs.declared.refusal.Refusal.the-variants.{Short}
 use Rattle.counted_file.specs.declared.FileCheck.{FileCheck}
 use Rattle.counted_file.specs.declared.FileCheck.the-variants.{Valid, Refused as Invalid}
 use Rattle.counting.specs.BoolLaws.{cond-case}
-use Rattle.gatemap_host.specs.SeasonCall.{mapBytes, hostSeason, seasonBufferAfter}
-use Rattle.season.specs.Season.{windowOf, windowCount, seasonLengthRight, daysWrong, seasonVersionRight, clashes, checkedSeason, someHolds, checkedMap, seasonMap, seasonNumber}
+use Rattle.gatemap_host.specs.SeasonCall.{mapNumberBytes, hostSeason, seasonBufferAfter}
+use Rattle.season.specs.Season.{windowCount, seasonLengthRight, daysWrong, seasonVersionRight, clashes, checkedSeason, someHolds, checkedMap, seasonMap, seasonNumber}
 use Rattle.season.specs.SeasonLaws.{valid-tells}
 use Rattle.season.specs.TheoremsProof.{one-holds, map-answered}
 use Rattle.season.specs.declared.SeasonAnswer.{SeasonAnswer}
 use Rattle.season.specs.declared.SeasonAnswer.the-variants.{Is, Refused}
-use Rattle.season_window.specs.Theorems.{Holds}
 use Rattle.soundness.specs.Theorems.{OneOf}
 use Rattle.file_soundness.specs.FullStrokeProof.{numbered}
-use Rattle.file_soundness.specs.Theorems.{SeasonNumbersNamed, SeasonByteSays}
+use Rattle.file_soundness.specs.Theorems.{SeasonNumbersNamed, SaysMap, SeasonByteSays}
 
 -- ---- the numbers
 abbrev Named : SeasonAnswer → Type 0
@@ -53,21 +52,12 @@ map-named season minute =
 pub season-numbers-named : SeasonNumbersNamed
 unfolding hostSeason
 season-numbers-named season minute out =
-    cond-case (leb mapBytes (length out)) Named _ _ (λ room. map-named season minute) (λ short. inr (inr (inr (inl refl))))
+    cond-case (leb mapNumberBytes (length out)) Named _ _ (λ room. map-named season minute) (λ short. inr (inr (inr (inl refl))))
 
 -- ---- the byte
--- what it is to say which window holds
-abbrev SaysWindow : List ℕ → ℕ → ℕ → Type 0
-SaysWindow season minute byte =
-    (i : ℕ)
-    × (i < windowCount season)
-    × Holds (windowOf season i) minute
-    × (byte ≡ windowOf season i .map)
-    × ((j : ℕ) → j < windowCount season → Holds (windowOf season j) minute → j ≡ i)
-
 module _ (season : List ℕ) (minute : ℕ) (bits : minute < 2 ^ 32) where
   -- a map that is answered is that of the one window that holds
-  map-says : (map : ℕ) → seasonMap season minute ≡ Is map → (check : FileCheck) → checkedSeason season ≡ check → SaysWindow season minute map
+  map-says : (map : ℕ) → seasonMap season minute ≡ Is map → (check : FileCheck) → checkedSeason season ≡ check → SaysMap season minute map
   map-says map is (Valid n) valid =
       let found = map-answered season n valid minute map bits .0 is in
       let i = found .0 in
@@ -81,19 +71,19 @@ module _ (season : List ℕ) (minute : ℕ) (bits : minute < 2 ^ 32) where
   map-says map is (Invalid refusal) refused = absurd (numbered refusal (ap seasonNumber (sym (ap (checkedMap season minute) refused) ∙ is)))
 
   -- what the buffer holds, by the answer
-  buffer-says : (answer : SeasonAnswer) (out : List ℕ) → seasonMap season minute ≡ answer → mapBytes ≤ length out → seasonNumber answer ≡ 0
-      → SaysWindow season minute (byteAt (seasonBufferAfter answer out) 0)
+  buffer-says : (answer : SeasonAnswer) (out : List ℕ) → seasonMap season minute ≡ answer → mapNumberBytes ≤ length out → seasonNumber answer ≡ 0
+      → SaysMap season minute (byteAt (seasonBufferAfter answer out) 0)
   unfolding written
   buffer-says (Is map) out is room done =
-      subst (SaysWindow season minute) (sym (getD-set-same out 0 map 0 (omega (arith, room)))) (map-says map is (checkedSeason season) refl)
+      subst (SaysMap season minute) (sym (getD-set-same out 0 map 0 (omega (arith, room)))) (map-says map is (checkedSeason season) refl)
   buffer-says (Refused refusal) out is room done = absurd (numbered refusal done)
 
   -- with room for the byte or without
-  with-room : (enough : Bool) (out : List ℕ) → leb mapBytes (length out) ≡ enough → seasonNumber (cond enough (seasonMap season minute) (Refused Short)) ≡ 0
-      → SaysWindow season minute (byteAt (seasonBufferAfter (cond enough (seasonMap season minute) (Refused Short)) out) 0)
-  with-room true out room done = buffer-says (seasonMap season minute) out refl (leb-true mapBytes (length out) room) done
+  with-room : (enough : Bool) (out : List ℕ) → leb mapNumberBytes (length out) ≡ enough → seasonNumber (cond enough (seasonMap season minute) (Refused Short)) ≡ 0
+      → SaysMap season minute (byteAt (seasonBufferAfter (cond enough (seasonMap season minute) (Refused Short)) out) 0)
+  with-room true out room done = buffer-says (seasonMap season minute) out refl (leb-true mapNumberBytes (length out) room) done
   with-room false out room done = absurd (numbered Short done)
 
 pub season-byte-says : SeasonByteSays
 unfolding hostSeason
-season-byte-says season minute out bits done = with-room season minute bits (leb mapBytes (length out)) out refl done
+season-byte-says season minute out bits done = with-room season minute bits (leb mapNumberBytes (length out)) out refl done

@@ -119,17 +119,22 @@ FileCellSays =
     → Says (mapOf file .mesh .listed) (generateKnotVectors millionth (mapOf file) .map .knots) cell (cellIn (hostCellBuffer file cell out))
 
 -- ---- THE MAP OF A SEASON
--- Take any season, any minute and any buffer. Where the C call for a season answers 0, the byte that it wrote is the map number of a window that holds at the minute, and no other window holds there.
+-- a window that holds at the minute has that map number, and no other window holds there
+abbrev pub SaysMap : List ℕ → ℕ → ℕ → Type 0
+SaysMap season minute map =
+    (i : ℕ)
+    × (i < windowCount season)
+    × Holds (windowOf season i) minute
+    × (map ≡ windowOf season i .map)
+    × ((j : ℕ) → j < windowCount season → Holds (windowOf season j) minute → j ≡ i)
+
+-- Take any season, any minute and any buffer. Where the C call for a season answers 0, the byte that it wrote is the map number of the one window that holds at the minute.
 abbrev pub SeasonByteSays : Type 0
 SeasonByteSays =
     (season : List ℕ) (minute : ℕ) (out : List ℕ)
     → minute < 2 ^ 32
     → hostSeasonNumber season minute out ≡ 0
-    → (i : ℕ)
-    × (i < windowCount season)
-    × Holds (windowOf season i) minute
-    × (byteAt (hostSeasonBuffer season minute out) 0 ≡ windowOf season i .map)
-    × ((j : ℕ) → j < windowCount season → Holds (windowOf season j) minute → j ≡ i)
+    → SaysMap season minute (byteAt (hostSeasonBuffer season minute out) 0)
 
 -- ---- THE LEDGER OF SIDES, for files
 -- the answers of a file's edits that are entered in the ledger: those of withdrawn edits are left out, and where torn edits stay none is (`all-entered`)

@@ -8,17 +8,17 @@ use lib.ListN.{length}
 use Rattle.big_endian.specs.Written.{written}
 use Rattle.control_point.specs.Told.{Told, unless}
 use Rattle.control_point.specs.declared.refusal.Refusal.the-variants.{Short}
-use Rattle.season.specs.Season.{seasonMap, seasonNumber, mapTable}
+use Rattle.season.specs.Season.{seasonMap, seasonNumber, seasonMapTable}
 use Rattle.season.specs.declared.SeasonAnswer.{SeasonAnswer}
 use Rattle.season.specs.declared.SeasonAnswer.the-variants.{Is, Refused}
 
 -- what a map's number takes in the buffer
-abbrev pub mapBytes : ℕ
-mapBytes = 1
+abbrev pub mapNumberBytes : ℕ
+mapNumberBytes = 1
 
 -- what the call finds, in a buffer of a length
 unfoldable pub hostSeason : List ℕ → ℕ → ℕ → SeasonAnswer
-hostSeason season minute room = cond (leb mapBytes room) (seasonMap season minute) (Refused Short)
+hostSeason season minute room = cond (leb mapNumberBytes room) (seasonMap season minute) (Refused Short)
 
 -- the buffer after it
 abbrev pub seasonBufferAfter : SeasonAnswer → List ℕ → List ℕ
@@ -34,4 +34,4 @@ hostSeasonBuffer season minute out = seasonBufferAfter (hostSeason season minute
 
 -- the table of the call, with a buffer of a length: 16, then the season's table: 12, 13, 18, 19
 abbrev pub hostSeasonTable : List ℕ → ℕ → ℕ → Told
-hostSeasonTable season minute room = unless 16 (leb mapBytes room) (mapTable season minute)
+hostSeasonTable season minute room = unless 16 (leb mapNumberBytes room) (seasonMapTable season minute)

@@ -9,20 +9,20 @@ use Rattle.season.specs.SeasonLaws.{map-told}
 use Rattle.season.specs.declared.SeasonAnswer.{SeasonAnswer}
 use Rattle.season.specs.declared.SeasonAnswer.the-variants.{Refused}
 use Rattle.gatemap_host.specs.CallLaws.{room-short, room-enough, room-told, found-gives}
-use Rattle.gatemap_host.specs.SeasonCall.{mapBytes, hostSeason, seasonBufferAfter, hostSeasonNumber, hostSeasonBuffer, hostSeasonTable}
+use Rattle.gatemap_host.specs.SeasonCall.{mapNumberBytes, hostSeason, seasonBufferAfter, hostSeasonNumber, hostSeasonBuffer, hostSeasonTable}
 
 module _ (season : List ℕ) (minute : ℕ) where
-  pub season-short : (room : ℕ) → room < mapBytes → Refused Short ≡ hostSeason season minute room
+  pub season-short : (room : ℕ) → room < mapNumberBytes → Refused Short ≡ hostSeason season minute room
   unfolding hostSeason
-  season-short room = room-short mapBytes room _ _
+  season-short room = room-short mapNumberBytes room _ _
 
-  pub season-of-file : (room : ℕ) → mapBytes ≤ room → seasonMap season minute ≡ hostSeason season minute room
+  pub season-of-file : (room : ℕ) → mapNumberBytes ≤ room → seasonMap season minute ≡ hostSeason season minute room
   unfolding hostSeason
-  season-of-file room = room-enough mapBytes room _ _
+  season-of-file room = room-enough mapNumberBytes room _ _
 
   host-season-told : (room : ℕ) → seasonTold (hostSeason season minute room) ≡ hostSeasonTable season minute room
   unfolding hostSeason
-  host-season-told room = room-told mapBytes room _ _ seasonTold _ (map-told season minute) refl
+  host-season-told room = room-told mapNumberBytes room _ _ seasonTold _ (map-told season minute) refl
 
   pub host-season-with : (out : List ℕ) (answer : SeasonAnswer) → hostSeason season minute (length out) ≡ answer
       → (seasonNumber answer ≡ hostSeasonNumber season minute out)

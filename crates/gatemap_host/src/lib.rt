@@ -23,7 +23,7 @@ const VALUE_BYTES: usize = 32;
 const CELL_BYTES: usize = 17;
 
 // A map's number, as it is written.
-const MAP_BYTES: usize = 1;
+const MAP_NUMBER_BYTES: usize = 1;
 
 // The number of a call whose answer is written.
 const DONE: u64 = 0;
@@ -82,7 +82,7 @@ pub extern "C" fn gatemap_cell(file: &[u8], cell: u8, out: &mut [u8]) -> u64
 fn host_season(season: &[u8], minute: u32, room: usize) -> SeasonAnswer
     ensures { λ r. ⌜ r ≡ hostSeason (now (season .entry)) minute room ⌝ }
 {
-    if room < MAP_BYTES {
+    if room < MAP_NUMBER_BYTES {
         return SeasonAnswer::Refused(Refusal::Short);
     }
     season_map(season, minute)

@@ -23,16 +23,13 @@ use Rattle.control_point.specs.Direction.{directionNumbered}
 use Rattle.control_point.specs.Told.{Told, natural, tells, unless}
 use Rattle.control_point.specs.declared.refusal.Refusal.the-variants.{Length, Version, Heading}
 use Rattle.control_point.specs.declared.t_mesh_direction.TmeshDirection.{TmeshDirection}
-use Rattle.counted_file.specs.Counted.{itemCount, countedRight}
+use Rattle.counted_file.specs.Counted.{versionAt, itemCount, countedRight}
 use Rattle.counted_file.specs.declared.FileCheck.{FileCheck}
 use Rattle.counted_file.specs.declared.FileCheck.the-variants.{Valid, Refused}
 use Rattle.t_mesh.specs.declared.t_mesh.Position.{Position}
 use Rattle.map_format.specs.declared.format.EditTarget.{EditTarget}
 
 -- ---- sizes and places
-abbrev pub versionAt : ℕ
-versionAt = 4
-
 abbrev pub borderAt : ℕ
 borderAt = 5
 

@@ -9,10 +9,9 @@ use big_endian::float_at;
 use control_point::refusal::Refusal;
 use control_point::t_mesh_direction::TmeshDirection;
 use counted_file::FileCheck;
+use counted_file::VERSION_AT;
 use counted_file::counted_right;
 use t_mesh::t_mesh::Position;
-
-const VERSION_AT: usize = 4;
 
 const FIRST_VERSION: u8 = 1;
 

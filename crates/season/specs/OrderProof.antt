@@ -3,12 +3,11 @@ use Prim.Native.Nat.{ℕ, _-_, _/_, _^_, _<_}
 use mathlib.Core.Path.{_≡_, refl, sym, ap, _∙_, subst}
 use mathlib.Core.Bool.{Bool, true, false}
 use mathlib.Core.List.{List}
-use mathlib.Core.Logic.{_⊎_, inl, inr, ⊎-elim}
+use mathlib.Core.Logic.{inl, ⊎-elim}
 use native.Mathlib.Omega.{arith}
-use lib.Dec.{eqb, ltb}
-use borrow.Author.Tests.{ltb-true, ltb-false}
+use lib.Dec.{eqb}
 use Rattle.big_endian.specs.BigEndian.{numberAt}
-use Rattle.counted_file.specs.Counted.{countBytes, countedRight}
+use Rattle.counted_file.specs.Counted.{countBytes, versionAt, countedRight}
 use Rattle.counted_file.specs.declared.FileCheck.{FileCheck}
 use Rattle.counted_file.specs.declared.FileCheck.the-variants.{Valid, Refused as Invalid}
 use Rattle.counting.specs.BoolLaws.{same-tests}
@@ -17,10 +16,10 @@ use Rattle.counting.specs.SomeLaws.{some-tells, some-shows}
 use Rattle.season_window.specs.Theorems.{Holds, Ever, Together}
 use Rattle.season_window.specs.Window.{pastDay, holdsAt}
 use Rattle.season_window.specs.declared.Window.{Window}
-use Rattle.season.specs.Season.{windowsAt, windowBytes, versionAt, theVersion, windowOf, windowCount, seasonLengthRight, daysWrong, seasonVersionRight, clashes, checkedSeason, someHolds, checkedMap, seasonMap}
+use Rattle.season.specs.Season.{windowsAt, windowBytes, theVersion, windowOf, windowCount, seasonLengthRight, daysWrong, seasonVersionRight, clashes, checkedSeason, someHolds, checkedMap, seasonMap}
 use Rattle.season.specs.SeasonLaws.{valid-tells}
 use Rattle.season.specs.Theorems.{Clashing, Reordered, OrderUnseen}
-use Rattle.season.specs.TheoremsProof.{clash-tells, clash-shows, holding-found, map-of-holding, map-of-none}
+use Rattle.season.specs.TheoremsProof.{pair-clashes, clash-tells, clash-shows, holding-found, map-of-holding, map-of-none}
 use Rattle.season.specs.declared.SeasonAnswer.the-variants.{Is}
 
 same-count : (season other : List ℕ) → Reordered season other → windowCount season ≡ windowCount other
@@ -75,26 +74,11 @@ module _ (season other : List ℕ) (r : Reordered season other) where
       alone i below never = inl (r .moved i, there i below, subst (λ (w : Window). Ever w → ⊥) (sym (r .windows i below)) never)
 
       pair : (i j : ℕ) → i < j → j < windowCount season → Together (windowOf season i) (windowOf season j) → Clashing other (windowCount other)
-      pair i j order below meet = by-order (ltb a b) (ltb b a) refl refl
-        where
-          a : ℕ
-          a = r .moved i
-
-          b : ℕ
-          b = r .moved j
-
-          first : i < windowCount season
-          first = omega (arith, order, below)
-
-          both : Together (windowOf other a) (windowOf other b)
-          both =
-              subst (λ (w : Window). Together w (windowOf other b)) (sym (r .windows i first))
-              (subst (λ (w : Window). Together (windowOf season i) w) (sym (r .windows j below)) meet)
-
-          by-order : (before behind : Bool) → ltb a b ≡ before → ltb b a ≡ behind → Clashing other (windowCount other)
-          by-order true behind h k = inr (a, b, ltb-true a b h, there j below, both)
-          by-order false true h k = inr (b, a, ltb-true b a k, there i first, (both .0, both .1, both .3, both .2))
-          by-order false false h k = absurd (still-apart i j order below (let above = ltb-false a b h in let under = ltb-false b a k in omega (arith, above, under)))
+      pair i j order below meet =
+          let first : i < windowCount season = omega (arith, order, below) in
+          pair-clashes other (windowCount other) (r .moved i) (r .moved j) (still-apart i j order below) (there i first) (there j below)
+          (subst (λ (w : Window). Together w (windowOf other (r .moved j))) (sym (r .windows i first))
+          (subst (λ (w : Window). Together (windowOf season i) w) (sym (r .windows j below)) meet))
 
 -- ---- so each test of one is that of the other
 module _ (season other : List ℕ) (r : Reordered season other) where

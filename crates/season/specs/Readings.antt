@@ -8,6 +8,7 @@ use Rattle.control_point.specs.declared.refusal.Refusal.the-variants.{Length, V
 use Rattle.counted_file.specs.declared.FileCheck.the-variants.{Valid, Refused as Invalid}
 use Rattle.season_window.specs.declared.Window.{Window}
 use Rattle.season.specs.Season.{checkedSeason, seasonMap}
+use Rattle.season.specs.Theorems.{Reordered}
 use Rattle.season.specs.declared.SeasonAnswer.the-variants.{Is, Refused}
 
 -- ---- seasons
@@ -30,10 +31,15 @@ seasonOf version windows = bytesOf 4 (1 + length windows * 13) ++ (version ∷ b
 abbrev pub frost : List ℕ
 frost = seasonOf 1 (window 0 0 43200 0 1440 ∷ (window 1 43200 4294967295 360 1320 ∷ []))
 
+-- the same, its windows in the other order
+abbrev pub turned : List ℕ
+turned = seasonOf 1 (window 1 43200 4294967295 360 1320 ∷ (window 0 0 43200 0 1440 ∷ []))
+
 pub record SeasonReadings : Type 0 where
   -- the first season is accepted, with the windows in either order
   pub accepted : checkedSeason frost ≡ Valid 2
-  pub other-order : checkedSeason (seasonOf 1 (window 1 43200 4294967295 360 1320 ∷ (window 0 0 43200 0 1440 ∷ []))) ≡ Valid 2
+  pub other-order : checkedSeason turned ≡ Valid 2
+  pub reordered : Reordered frost turned
   -- a window has its opening minute and the one before its closing
   pub opened : seasonMap frost 0 ≡ Is 0
   pub not-closed : seasonMap frost 43199 ≡ Is 0
@@ -52,10 +58,15 @@ pub record SeasonReadings : Type 0 where
   pub one-minute-back : checkedSeason (seasonOf 1 (window 1 43200 4294967295 360 1320 ∷ (window 0 0 43561 0 1440 ∷ []))) ≡ Invalid Clash
   -- windows that share days and no minute of the day do not
   pub by-day : checkedSeason (seasonOf 1 (window 0 0 43200 0 720 ∷ (window 1 0 43200 720 1440 ∷ []))) ≡ Valid 2
-  -- a window that can hold in no minute: no part of the day, a span that misses its part of the day, no span
+  -- a window that can hold in no minute: no part of the day, a span that misses its part of the day, the day's end alone, no span
   pub no-part : checkedSeason (seasonOf 1 (window 0 0 43200 360 360 ∷ [])) ≡ Invalid Clash
   pub missed : checkedSeason (seasonOf 1 (window 0 1320 1800 360 1320 ∷ [])) ≡ Invalid Clash
+  pub at-day-end : checkedSeason (seasonOf 1 (window 0 0 43200 1440 1440 ∷ [])) ≡ Invalid Clash
+  pub closed-before : checkedSeason (seasonOf 1 (window 0 43200 0 0 1440 ∷ [])) ≡ Invalid Clash
   pub no-span : checkedSeason (seasonOf 1 (window 0 360 360 0 1440 ∷ [])) ≡ Invalid Clash
+  -- a file of no bytes, a first minute of the day of 1441
+  pub no-bytes : checkedSeason [] ≡ Invalid Length
+  pub first-past : checkedSeason (seasonOf 1 (window 0 0 43200 1441 1440 ∷ [])) ≡ Invalid Length
   -- 12 before 13 before 18
   pub past-day : checkedSeason (seasonOf 2 (window 0 0 43200 360 360 ∷ (window 0 0 43200 0 1441 ∷ []))) ≡ Invalid Length
   pub version : checkedSeason (seasonOf 2 (window 0 0 43200 360 360 ∷ [])) ≡ Invalid Version

@@ -17,7 +17,7 @@ use lib.Dec.{eqb}
 use Rattle.big_endian.specs.BigEndian.{byteAt, numberAt}
 use Rattle.control_point.specs.Told.{Told, natural, tells, unless, refusalTold}
 use Rattle.control_point.specs.declared.refusal.Refusal.the-variants.{Length, Version, Clash, Shut}
-use Rattle.counted_file.specs.Counted.{itemCount, countedRight}
+use Rattle.counted_file.specs.Counted.{versionAt, itemCount, countedRight}
 use Rattle.counted_file.specs.declared.FileCheck.{FileCheck}
 use Rattle.counted_file.specs.declared.FileCheck.the-variants.{Valid, Refused as Invalid}
 use Rattle.counting.specs.Counting.{someBelow, lastBelow}
@@ -27,9 +27,6 @@ use Rattle.season.specs.declared.SeasonAnswer.{SeasonAnswer}
 use Rattle.season.specs.declared.SeasonAnswer.the-variants.{Is, Refused}
 
 -- ---- sizes and places
-abbrev pub versionAt : ℕ
-versionAt = 4
-
 abbrev pub theVersion : ℕ
 theVersion = 1
 
@@ -144,12 +141,12 @@ whereSeason season next =
     next)))
 
 -- the table of its check: the count of its windows
-abbrev pub checkTable : List ℕ → Told
-checkTable season = whereSeason season (tells (natural (windowCount season) ∷ []))
+abbrev pub seasonTable : List ℕ → Told
+seasonTable season = whereSeason season (tells (natural (windowCount season) ∷ []))
 
 -- the table of its map at a minute: 19, and else the map number
-abbrev pub mapTable : List ℕ → ℕ → Told
-mapTable season minute =
+abbrev pub seasonMapTable : List ℕ → ℕ → Told
+seasonMapTable season minute =
     whereSeason season
     (unless 19 (someHolds season minute (windowCount season))
     (tells (natural (mapHeld season minute (windowCount season)) ∷ [])))

@@ -24,7 +24,7 @@ use Rattle.season_window.specs.Window.{holdsAt, canHold}
 use Rattle.season_window.specs.declared.Window.{Window}
 use Rattle.season.specs.declared.SeasonAnswer.{SeasonAnswer}
 use Rattle.season.specs.declared.SeasonAnswer.the-variants.{Is, Refused}
-use Rattle.season.specs.Season.{windowsAt, windowBytes, mostWindows, closingIn, mapIn, firstIn, lastIn, windowAt, windowOf, windowCount, seasonLengthRight, daysWrong, seasonVersionRight, holdsWithOne, clashes, checkedSeason, someHolds, mapHeld, mapAmong, checkedMap, seasonMap, seasonTold, whereSeason, checkTable, mapTable}
+use Rattle.season.specs.Season.{windowsAt, windowBytes, mostWindows, closingIn, mapIn, firstIn, lastIn, windowAt, windowOf, windowCount, seasonLengthRight, daysWrong, seasonVersionRight, holdsWithOne, clashes, checkedSeason, someHolds, mapHeld, mapAmong, checkedMap, seasonMap, seasonTold, whereSeason, seasonTable, seasonMapTable}
 
 -- ---- what stands after the first bytes stands in all bytes, that many places on
 window-after : (season : List ℕ) (count at : ℕ) → windowAt (drop count season) at ≡ windowAt season (count + at)
@@ -50,22 +50,22 @@ map-none season minute count none =
     ap (λ (some : Bool). cond some (Is (mapHeld season minute count)) (Refused Shut)) (some-none count (λ n. holdsAt (windowOf season n) minute) none)
 
 module _ (season : List ℕ) (count : ℕ) (some : 0 < count) where
-  last : Window
-  last = windowOf season (count - 1)
+  newest : Window
+  newest = windowOf season (count - 1)
 
   pub clash-alone : canHold (windowOf season (count - 1)) ≡ false → true ≡ clashes season count
-  unfolding last
-  clash-alone never = some-here count _ some (ap (λ (can : Bool). not can || holdsWithOne season (count - 1) last) never)
+  unfolding newest
+  clash-alone never = some-here count _ some (ap (λ (can : Bool). not can || holdsWithOne season (count - 1) newest) never)
 
   pub clash-with : holdsWithOne season (count - 1) (windowOf season (count - 1)) ≡ true → true ≡ clashes season count
-  unfolding last
-  clash-with meets = some-here count _ some (or-second (not (canHold last)) (holdsWithOne season (count - 1) last) meets)
+  unfolding newest
+  clash-with meets = some-here count _ some (or-second (not (canHold newest)) (holdsWithOne season (count - 1) newest) meets)
 
   pub clash-before : canHold (windowOf season (count - 1)) ≡ true → holdsWithOne season (count - 1) (windowOf season (count - 1)) ≡ false
       → clashes season (count - 1) ≡ clashes season count
-  unfolding last
+  unfolding newest
   clash-before can apart =
-      some-before count _ some (ap (λ (can : Bool). not can || holdsWithOne season (count - 1) last) can ∙ apart)
+      some-before count _ some (ap (λ (can : Bool). not can || holdsWithOne season (count - 1) newest) can ∙ apart)
 
 module _ (season : List ℕ) (minute count : ℕ) (some : 0 < count) where
   holds : ℕ → Bool
@@ -99,10 +99,10 @@ where-season-told season told refused =
     by-tests true false version apart = refused Length
     by-tests false days version apart = refused Length
 
-pub check-told : (season : List ℕ) → fileTold (checkedSeason season) ≡ checkTable season
+pub check-told : (season : List ℕ) → fileTold (checkedSeason season) ≡ seasonTable season
 check-told season = where-season-told season fileTold (λ refusal. refl)
 
--- a valid season has at most 64 windows
+-- where four tests in a row make it valid, the first and the last held, and the count is that of the windows
 valid-right : (long days version apart : Bool) (count n : ℕ)
     → cond long (cond days (cond version (cond apart (Valid count) (Invalid Clash)) (Invalid Version)) (Invalid Length)) (Invalid Length) ≡ Valid n
     → (long ≡ true) × (apart ≡ true) × (count ≡ n)
@@ -129,7 +129,7 @@ valid-tells season n valid =
       apart = ap (clashes season) (sym (right .2)) ∙ not-true (clashes season count) (right .1);
     }
 
-pub map-told : (season : List ℕ) (minute : ℕ) → seasonTold (seasonMap season minute) ≡ mapTable season minute
+pub map-told : (season : List ℕ) (minute : ℕ) → seasonTold (seasonMap season minute) ≡ seasonMapTable season minute
 map-told season minute =
     where-season-told season (λ (check : FileCheck). seasonTold (checkedMap season minute check)) (λ refusal. refl)
     ∙ ap (whereSeason season) (by-test (someHolds season minute (windowCount season)))

@@ -3,16 +3,16 @@ use Prim.Native.Nat.{ℕ, _^_, _<_}
 use mathlib.Core.Path.{_≡_, refl, sym, ap, _∙_}
 use mathlib.Core.Bool.{Bool, true, false, not, cond, _||_}
 use mathlib.Core.List.{List}
-use mathlib.Core.Logic.{_⊎_, inl, inr, ⊎-elim}
+use mathlib.Core.Logic.{inl, inr, ⊎-elim}
 use native.Mathlib.Omega.{arith}
-use lib.Dec.{ltb}
-use borrow.Author.Tests.{not-true, not-false, ltb-true, ltb-false}
-use Rattle.control_point.specs.Refusal.{refusalNumber}
+use lib.Dec.{eqb, ltb}
+use borrow.Author.Tests.{not-true, not-false, eqb-true, eqb-false, ltb-true, ltb-false}
 use Rattle.control_point.specs.declared.refusal.Refusal.the-variants.{Length, Version, Clash, Shut}
+use Rattle.counted_file.specs.Counted.{fileTold}
 use Rattle.counted_file.specs.CountedLaws.{valid-refused}
 use Rattle.counted_file.specs.declared.FileCheck.{FileCheck}
 use Rattle.counted_file.specs.declared.FileCheck.the-variants.{Valid, Refused as Invalid}
-use Rattle.counting.specs.BoolLaws.{both-ways, or-case, or-first, or-second}
+use Rattle.counting.specs.BoolLaws.{both-ways, not-held, or-case, or-first, or-second}
 use Rattle.counting.specs.Counting.{lastBelow}
 use Rattle.counting.specs.SomeLaws.{some-tells, some-shows, last-passes}
 use Rattle.season_window.specs.Theorems.{Holds, Ever, Together}
@@ -29,7 +29,7 @@ use Rattle.season.specs.declared.SeasonAnswer.the-variants.{Is, Refused}
 abbrev clashesAt : List ℕ → ℕ → Bool
 clashesAt season n = not (canHold (windowOf season n)) || holdsWithOne season n (windowOf season n)
 
-swapped : {w v : Window} → Together w v → Together v w
+pub swapped : {w v : Window} → Together w v → Together v w
 swapped meet = (meet .0, meet .1, meet .3, meet .2)
 
 pub clash-tells : (season : List ℕ) (n : ℕ) → clashes season n ≡ true → Clashing season n
@@ -49,11 +49,8 @@ clash-shows season n = ⊎-elim (λ a. alone (a .0) (a .1) (a .2)) (λ a. pair (
     alone : (i : ℕ) → i < n → (Ever (windowOf season i) → ⊥) → clashes season n ≡ true
     alone i below never =
         some-shows n (clashesAt season) i below
-        (or-first (not (canHold (windowOf season i))) (holdsWithOne season i (windowOf season i)) (cannot (canHold (windowOf season i)) refl))
-      where
-        cannot : (can : Bool) → canHold (windowOf season i) ≡ can → not can ≡ true
-        cannot true can = absurd (never (can-hold-is-ever (windowOf season i) .0 can))
-        cannot false can = refl
+        (or-first (not (canHold (windowOf season i))) (holdsWithOne season i (windowOf season i))
+        (ap not (not-held (canHold (windowOf season i)) (λ can. never (can-hold-is-ever (windowOf season i) .0 can)))))
 
     pair : (i j : ℕ) → i < j → j < n → Together (windowOf season i) (windowOf season j) → clashes season n ≡ true
     pair i j order below meet =
@@ -61,22 +58,24 @@ clash-shows season n = ⊎-elim (λ a. alone (a .0) (a .1) (a .2)) (λ a. pair (
         (or-second (not (canHold (windowOf season j))) (holdsWithOne season j (windowOf season j))
         (some-shows j (λ k. holdTogether (windowOf season j) (windowOf season k)) i order (hold-together-is-together (windowOf season j) (windowOf season i) .1 (swapped meet))))
 
--- ---- 18
--- the number of a refusal, 0 of none
-refusal-of : FileCheck → ℕ
-refusal-of (Valid n) = 0
-refusal-of (Invalid refusal) = refusalNumber refusal
+-- two windows that hold together clash, whatever their order
+pub pair-clashes : (season : List ℕ) (n i j : ℕ) → (i ≡ j → ⊥) → i < n → j < n → Together (windowOf season i) (windowOf season j) → Clashing season n
+pair-clashes season n i j two i-below j-below meet = by-order (ltb i j) refl
+  where
+    by-order : (before : Bool) → ltb i j ≡ before → Clashing season n
+    by-order true h = inr (i, j, ltb-true i j h, j-below, meet)
+    by-order false h = let above = ltb-false i j h in inr (j, i, omega (arith, above, two), i-below, swapped meet)
 
+-- ---- 18
 -- where four tests in a row refuse by 18, the first three held and the last did not
 clash-tests : (long days version apart : Bool) (count : ℕ)
     → cond long (cond days (cond version (cond apart (Valid count) (Invalid Clash)) (Invalid Version)) (Invalid Length)) (Invalid Length) ≡ Invalid Clash
     → (long ≡ true) × (days ≡ true) × (version ≡ true) × (apart ≡ false)
-unfolding refusal-of
 clash-tests true true true false count refused = (refl, refl, refl, refl)
 clash-tests true true true true count refused = absurd (valid-refused Clash count (sym refused))
-clash-tests true true false apart count refused = let z : _≡_ {A = ℕ} 13 18 = ap refusal-of refused in absurd (omega arith)
-clash-tests true false version apart count refused = let z : _≡_ {A = ℕ} 12 18 = ap refusal-of refused in absurd (omega arith)
-clash-tests false days version apart count refused = let z : _≡_ {A = ℕ} 12 18 = ap refusal-of refused in absurd (omega arith)
+clash-tests true true false apart count refused = let z : _≡_ {A = ℕ} 13 18 = ap (λ (check : FileCheck). fileTold check .number) refused in absurd (omega arith)
+clash-tests true false version apart count refused = let z : _≡_ {A = ℕ} 12 18 = ap (λ (check : FileCheck). fileTold check .number) refused in absurd (omega arith)
+clash-tests false days version apart count refused = let z : _≡_ {A = ℕ} 12 18 = ap (λ (check : FileCheck). fileTold check .number) refused in absurd (omega arith)
 
 pub clash-is-existence : ClashIsExistence
 unfolding checkedSeason
@@ -94,17 +93,16 @@ clash-is-existence season = (tells, shows)
     shows h = let readable = h .0 in rw (readable .0, readable .1, readable .2, clash-shows season n (h .1)) refl
 
 -- ---- an accepted season
--- no two of its windows hold in some common minute
+-- none of its windows clash
 apart : (season : List ℕ) (n : ℕ) → checkedSeason season ≡ Valid n → Clashing season n → ⊥
 apart season n valid clash = both-ways (clashes season n) (clash-shows season n clash) (valid-tells season n valid .apart)
 
 pub one-holds : OneHolds
-one-holds season n valid m i j bits i-below j-below i-holds j-holds = by-order (ltb i j) (ltb j i) refl refl
+one-holds season n valid m i j bits i-below j-below i-holds j-holds = by-test (eqb i j) refl
   where
-    by-order : (before behind : Bool) → ltb i j ≡ before → ltb j i ≡ behind → i ≡ j
-    by-order true behind h k = absurd (apart season n valid (inr (i, j, ltb-true i j h, j-below, (m, bits, i-holds, j-holds))))
-    by-order false true h k = absurd (apart season n valid (inr (j, i, ltb-true j i k, i-below, (m, bits, j-holds, i-holds))))
-    by-order false false h k = let above = ltb-false i j h in let below = ltb-false j i k in omega arith
+    by-test : (same : Bool) → eqb i j ≡ same → i ≡ j
+    by-test true same = eqb-true i j same
+    by-test false other = absurd (apart season n valid (pair-clashes season n i j (eqb-false i j other) i-below j-below (m, bits, i-holds, j-holds)))
 
 pub each-holds : EachHolds
 each-holds season n valid i below = by-test (canHold (windowOf season i)) refl

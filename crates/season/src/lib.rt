@@ -2,17 +2,16 @@
 ghost use mathlib.Core.Path.{_≡_};
 ghost use Prim.Native.Nat.{_≤_, _<_};
 ghost use Rattle.counted_file.specs.Counted.{fileTold};
-ghost use Rattle.season.specs.Season.{mostWindows, windowOf, daysWrong, holdsWithOne, clashes, checkedSeason, checkTable, mapAmong, seasonMap, seasonTold, mapTable};
+ghost use Rattle.season.specs.Season.{mostWindows, windowOf, daysWrong, holdsWithOne, clashes, checkedSeason, seasonTable, mapAmong, seasonMap, seasonTold, seasonMapTable};
 use big_endian::after;
 use big_endian::byte_at;
 use big_endian::length_at;
 use big_endian::pair_at;
 use control_point::refusal::Refusal;
 use counted_file::FileCheck;
+use counted_file::VERSION_AT;
 use counted_file::counted_right;
 use season_window::Window;
-
-const VERSION_AT: usize = 4;
 
 const THE_VERSION: u8 = 1;
 
@@ -109,7 +108,7 @@ fn clashes(season: &[u8], count: usize) -> bool
 // A season's count of windows, or why it is refused.
 pub fn check_season(season: &[u8]) -> FileCheck
     ensures is { λ r. ⌜ r ≡ checkedSeason (now (season .entry)) ⌝ }
-    ensures told { λ r. ⌜ fileTold r ≡ checkTable (now (season .entry)) ⌝ }
+    ensures told { λ r. ⌜ fileTold r ≡ seasonTable (now (season .entry)) ⌝ }
 {
     if !counted_right(season, WINDOWS_AT, WINDOW_BYTES, MOST_WINDOWS) {
         return FileCheck::Refused(Refusal::Length);
@@ -146,7 +145,7 @@ fn map_among(season: &[u8], minute: u32, count: usize) -> SeasonAnswer
 // The map of a season at a minute, or why there is none.
 pub fn season_map(season: &[u8], minute: u32) -> SeasonAnswer
     ensures is { λ r. ⌜ r ≡ seasonMap (now (season .entry)) minute ⌝ }
-    ensures told { λ r. ⌜ seasonTold r ≡ mapTable (now (season .entry)) minute ⌝ }
+    ensures told { λ r. ⌜ seasonTold r ≡ seasonMapTable (now (season .entry)) minute ⌝ }
 {
     match check_season(season) {
         FileCheck::Valid(count) => map_among(season, minute, count),

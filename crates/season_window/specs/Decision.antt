@@ -17,7 +17,7 @@ common w v =
       last = min (w .last) (v .last);
     }
 
--- the first minute from `opening` on whose minute of the day is from `first` on and before `last`
+-- the first minute from `opening` on whose minute of the day is from `first` on and before `last`, where first < last ≤ 1440
 abbrev pub firstMinute : ℕ → ℕ → ℕ → ℕ
 firstMinute opening first last =
     let day = opening % dayMinutes in

@@ -7,7 +7,7 @@ use native.Mathlib.Nat.{le-max-left, le-max-right, min-le-left, min-le-right, ma
 use native.Mathlib.Omega.{arith}
 use lib.Dec.{leb, ltb}
 use borrow.Author.Tests.{lt-ltb, le-ltb, le-leb, ltb-true, ltb-false, leb-true}
-use Rattle.counting.specs.BoolLaws.{and-both, same-tests}
+use Rattle.counting.specs.BoolLaws.{and-both, not-held, same-tests}
 use Rattle.counting.specs.SomeLaws.{some-is, some-same}
 use Rattle.season_window.specs.Decision.{common, firstMinute, decided}
 use Rattle.season_window.specs.Theorems.{Holds}
@@ -43,11 +43,7 @@ holds-shows w m h =
     )
 
 never : (w : Window) (m : ℕ) → (Holds w m → ⊥) → holdsAt w m ≡ false
-never w m out = by-test (holdsAt w m) refl
-  where
-    by-test : (holds : Bool) → holdsAt w m ≡ holds → holds ≡ false
-    by-test true holds = absurd (out (holds-tells w m holds))
-    by-test false holds = refl
+never w m out = not-held (holdsAt w m) (λ holds. out (holds-tells w m holds))
 
 -- a minute out of the window, on one side or the other, in the season or in the day
 pub before-opening : (w : Window) (m : ℕ) → m < w .opening → false ≡ holdsAt w m
@@ -146,7 +142,7 @@ module _ (w : Window) (bits : w .closing ≤ 2 ^ 32) where
   first-decides some = sym (ap (λ (begun : Bool). begun && unclosed) (lt-ltb (w .first) last some)) ∙ decided-right w bits
 
 -- ---- what two windows share
-pub common-holds : (w v : Window) (m : ℕ) → holdsAt (common w v) m ≡ (holdsAt w m && holdsAt v m)
+common-holds : (w v : Window) (m : ℕ) → holdsAt (common w v) m ≡ (holdsAt w m && holdsAt v m)
 unfolding common
 common-holds w v m = same-tests (holdsAt (common w v) m) (holdsAt w m && holdsAt v m) both shared
   where

@@ -33,7 +33,8 @@ abbrev pub HoldTogetherIsTogether : Type 0
 HoldTogetherIsTogether = (w v : Window) → (holdTogether w v ≡ true) ↔ Together w v
 
 -- ---- THE DECISION IS THE EXISTENCE
--- What code decides in constant time, of a window and of a pair, is whether there is such a minute. A closing minute of 32 bits is below 2 ^ 32; of the others nothing is asked.
+-- `decided`, the arithmetic that `can_hold` follows in constant time, is true of a window exactly where there is such a minute, and of what two windows share exactly where there is a common one. A closing
+-- minute of 32 bits is below 2 ^ 32; nothing else is asked. The contracts of `can_hold` and `holds_with` promise the existence itself.
 abbrev pub DecisionIsExistence : Type 0
 DecisionIsExistence =
     (w : Window) → w .closing ≤ 2 ^ 32 → ((decided w ≡ true) ↔ Ever w) × ((v : Window) → (decided (common w v) ≡ true) ↔ Together w v)

@@ -27,7 +27,7 @@ fn earlier(a: u32, b: u32) -> u32
     if a < b { a } else { b }
 }
 
-// The first minute from `opening` on that is one of the day's part. It may have more than 32 bits.
+// The first minute from `opening` on that is one of the day's part, which is not empty. It may have more than 32 bits.
 fn first_minute(opening: u32, first: u32, last: u32) -> u64
     ensures { λ r. ⌜ r ≡ firstMinute opening first last ⌝ }
 {

@@ -17,7 +17,7 @@ use Rattle.control_point.specs.declared.t_mesh_control_point.Side.{Side}
 use Rattle.control_point.specs.declared.t_mesh_control_point.Side.the-variants.{Link, Border, Opening}
 use Rattle.store.specs.Store.{storeSides}
 use Rattle.store.specs.declared.store.Store.{Store}
-use Rattle.counting.specs.BoolLaws.{both-ways, and-both}
+use Rattle.counting.specs.BoolLaws.{both-ways, and-both, same-tests}
 use Rattle.mirror.specs.Mirror.{Sound}
 use Rattle.counting.specs.Counting.{countBelow}
 use Rattle.counting.specs.CountLaws.{count-same, count-nothing, count-one}
@@ -36,12 +36,6 @@ links-to : (side : Side) (m : ℕ) → linksTo side m ≡ true → (interval : F
 links-to (Link k interval) m h = (interval, ap (λ (n : ℕ). Link n interval) (eqb-true k m h))
 links-to (Border weight) m h = both-ways false h refl
 links-to Opening m h = both-ways false h refl
-
--- tests that follow from one another are the same
-same-tests : (a b : Bool) → (a ≡ true → b ≡ true) → (b ≡ true → a ≡ true) → a ≡ b
-same-tests true b to from = sym (to refl)
-same-tests false true to from = from refl
-same-tests false false to from = refl
 
 module _ (store : Store) (sound : Sound store) where
   -- whether a side of a made point leads to another

@@ -10,14 +10,14 @@ use Rattle.control_point.specs.ToldLaws.{beside}
 use Rattle.counted_file.specs.Counted.{fileTold}
 use Rattle.counted_file.specs.CountedLaws.{length-tells}
 use Rattle.counted_file.specs.declared.FileCheck.{FileCheck}
-use Rattle.season.specs.Season.{windowsAt, windowBytes, mostWindows, windowCount, seasonLengthRight, daysWrong, seasonVersionRight, theVersion, checkedSeason, checkTable}
+use Rattle.season.specs.Season.{windowsAt, windowBytes, mostWindows, windowCount, seasonLengthRight, daysWrong, seasonVersionRight, theVersion, checkedSeason, seasonTable}
 use Rattle.season.specs.SeasonLaws.{check-told}
 use Rattle.season.proofs.check_season.Statement.{statement}
 use Rattle.season.proofs.check_season.Tie as tie
 
 -- what it tells follows from what it is
-told : (season : List ℕ) (r : FileCheck) → r ≡ checkedSeason season → (r ≡ checkedSeason season) × (fileTold r ≡ checkTable season)
-told season = beside fileTold (checkedSeason season) (checkTable season) (check-told season)
+told : (season : List ℕ) (r : FileCheck) → r ≡ checkedSeason season → (r ≡ checkedSeason season) × (fileTold r ≡ seasonTable season)
+told season = beside fileTold (checkedSeason season) (seasonTable season) (check-told season)
 
 counted-right-requires : tie.Need-counted-right-requires
 counted-right-requires c κs = search needs
@@ -27,8 +27,8 @@ long : (c : tie.Else1) → seasonLengthRight (c .before .before .before .args .s
 long c = sym (c .before .counted-right .ensures) ∙ not-false _ (c .if1 .left)
 
 -- past the test of the days
-whole : (c : tie.Else2) → daysWrong (c .before .before .before .before .before .args .season .now) (windowCount (c .before .before .before .before .before .args .season .now)) ≡ false
-whole c = sym (c .before .days-wrong .ensures) ∙ c .if2 .left
+in-day : (c : tie.Else2) → daysWrong (c .before .before .before .before .before .args .season .now) (windowCount (c .before .before .before .before .before .args .season .now)) ≡ false
+in-day c = sym (c .before .days-wrong .ensures) ∙ c .if2 .left
 
 -- past the test of the version
 versioned : (c : tie.Else3) → seasonVersionRight (c .before .before .before .before .before .before .before .args .season .now) ≡ true
@@ -55,7 +55,7 @@ returns-3 : tie.Need-returns-3
 unfolding checkedSeason
 returns-3 c =
     let days = c .before .before in
-    told _ _ (rw (long (days .before .before), whole days, ne-eqb _ theVersion (λ same. c .if3 .taken (c .before .byte-at .ensures ∙ same))))
+    told _ _ (rw (long (days .before .before), in-day days, ne-eqb _ theVersion (λ same. c .if3 .taken (c .before .byte-at .ensures ∙ same))))
 
 clashes-requires : tie.Need-clashes-requires
 clashes-requires c κs = length-tells windowsAt windowBytes mostWindows _ (long (c .before .before .before .before)) .few
@@ -65,14 +65,14 @@ unfolding checkedSeason
 returns-4 c =
     let version = c .before .before in
     let days = version .before .before in
-    told _ _ (rw (long (days .before .before), whole days, versioned version, sym (c .before .clashes .ensures) ∙ c .if4 .taken))
+    told _ _ (rw (long (days .before .before), in-day days, versioned version, sym (c .before .clashes .ensures) ∙ c .if4 .taken))
 
 returns-5 : tie.Need-returns-5
 unfolding checkedSeason
 returns-5 c =
     let version = c .before .before in
     let days = version .before .before in
-    told _ _ (rw (long (days .before .before), whole days, versioned version, sym (c .before .clashes .ensures) ∙ c .if4 .left))
+    told _ _ (rw (long (days .before .before), in-day days, versioned version, sym (c .before .clashes .ensures) ∙ c .if4 .left))
 
 pub check-season-spec : {M : Type 1} → statement M
 check-season-spec =

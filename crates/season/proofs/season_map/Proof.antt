@@ -4,15 +4,15 @@ use mathlib.Core.Path.{_≡_, sym, ap, _∙_}
 use mathlib.Core.List.{List}
 use borrow.Author.Needs.{needs}
 use Rattle.control_point.specs.ToldLaws.{beside}
-use Rattle.season.specs.Season.{checkedMap, seasonMap, seasonTold, mapTable}
+use Rattle.season.specs.Season.{checkedMap, seasonMap, seasonTold, seasonMapTable}
 use Rattle.season.specs.SeasonLaws.{valid-tells, map-told}
 use Rattle.season.specs.declared.SeasonAnswer.{SeasonAnswer}
 use Rattle.season.proofs.season_map.Statement.{statement}
 use Rattle.season.proofs.season_map.Tie as tie
 
 -- what it tells follows from what it is
-told : (season : List ℕ) (minute : ℕ) (r : SeasonAnswer) → r ≡ seasonMap season minute → (r ≡ seasonMap season minute) × (seasonTold r ≡ mapTable season minute)
-told season minute = beside seasonTold (seasonMap season minute) (mapTable season minute) (map-told season minute)
+told : (season : List ℕ) (minute : ℕ) (r : SeasonAnswer) → r ≡ seasonMap season minute → (r ≡ seasonMap season minute) × (seasonTold r ≡ seasonMapTable season minute)
+told season minute = beside seasonTold (seasonMap season minute) (seasonMapTable season minute) (map-told season minute)
 
 check-season-requires : tie.Need-check-season-requires
 check-season-requires c κs = search needs
