@@ -13,7 +13,7 @@ use Rattle.control_point.specs.declared.sides.SideAnswer.{SideAnswer}
 use Rattle.control_point.specs.declared.sides.SideAnswer.the-variants.{Is, Refused as NoSide}
 use Rattle.control_point.specs.declared.t_mesh_control_point.Side.{Side}
 
--- a count or a number of a point, a float, a side
+-- a count, a word, or a number of a point or of a map; a float; a side
 pub data Value : Type 0 where
   natural : ℕ → Value
   float : Float → Value

@@ -29,7 +29,7 @@ use Rattle.season.specs.declared.SeasonAnswer.the-variants.{Is, Refused}
 abbrev clashesAt : List ℕ → ℕ → Bool
 clashesAt season n = not (canHold (windowOf season n)) || holdsWithOne season n (windowOf season n)
 
-pub swapped : {w v : Window} → Together w v → Together v w
+swapped : {w v : Window} → Together w v → Together v w
 swapped meet = (meet .0, meet .1, meet .3, meet .2)
 
 pub clash-tells : (season : List ℕ) (n : ℕ) → clashes season n ≡ true → Clashing season n
