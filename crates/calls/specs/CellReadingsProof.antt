@@ -2,6 +2,7 @@
 use mathlib.Core.Path.{refl}
 use lib.Count.{ones, onesIn}
 use lib.Ieee.{ofBits, ofFields, ofInt, add, sub, mul, div, sum, round, units, odd, size, span, climb, neg, le, lt, eq}
+use Rattle.float64.specs.Unit.{inUnit}
 use Rattle.values.specs.Values.{valuesFrom}
 use Rattle.bit_words.specs.Words.{wordFrom}
 use Rattle.control_point.specs.Connect.{connectable}
@@ -13,7 +14,7 @@ use Rattle.grid_index.specs.Index.{indexOf}
 use Rattle.navigation.specs.Walk.{onward, walkOf}
 use Rattle.search.specs.Search.{judgeAt, seekFrom, findInferredConnection}
 use Rattle.store.specs.Store.{makeLoose, connectPoints}
-use Rattle.insertion.specs.Insert.{inUnit, checked, checkedIntervals, placed, newSide, firstSide, withFirst, secondSide, sided, insertPoint}
+use Rattle.insertion.specs.Insert.{checked, checkedIntervals, placed, newSide, firstSide, withFirst, secondSide, sided, insertPoint}
 use Rattle.ray_approach.specs.Approach.{approachIn, approachOf}
 use Rattle.ray.specs.Ray.{rayFrom, rayOf}
 use Rattle.ray.specs.Knots.{knotsAt, pointKnotVectors}

@@ -9,6 +9,7 @@ use lib.Ieee.Fits.{and-l, and-r, add-fits, sub-fits}
 use Rattle.float64.specs.Literals.{zeroLiteral, oneLiteral}
 use Rattle.float64.specs.Order.{le→nlt}
 use Rattle.float64.specs.SignLaws.{literal-zero, literal-one, le→nonneg, nonneg→nonnegOrNan, nonnegOrNan-add, nonnegOrNan-mul, sub-nonnegOrNan}
+use Rattle.float64.specs.Unit.{inUnit}
 use Rattle.control_point.specs.Connect.{connectable}
 use Rattle.control_point.specs.Direction.{flipOf, clockwiseOf, antiClockwiseOf, sameDirection}
 use Rattle.control_point.specs.Point.{sideOf, withSide, movedFrom, loosePoint, isMade, isLink, blank}
@@ -31,7 +32,7 @@ use Rattle.search.specs.declared.search.Judged.{Judged}
 use Rattle.search.specs.declared.search.Judged.the-variants.{On, Here, Ends, Fails}
 use Rattle.store.specs.Store.{storeSides, storePoint, withPoint, withSideAt, withNew, linked, settled, connectPoints}
 use Rattle.store.specs.declared.store.Store.{Store}
-use Rattle.insertion.specs.Insert.{inUnit, cut, pointInLine, placed, soughtSide, borderOr, newSide, withNewSide, tears, unlessTorn, firstSide, withFirst, secondSide, sided, insertPoint}
+use Rattle.insertion.specs.Insert.{cut, pointInLine, placed, soughtSide, borderOr, newSide, withNewSide, tears, unlessTorn, firstSide, withFirst, secondSide, sided, insertPoint}
 use Rattle.insertion.specs.declared.insertion.Inserted.{Inserted}
 use Rattle.insertion.specs.declared.insertion.NewSide.{NewSide}
 use Rattle.insertion.specs.declared.insertion.NewSide.the-variants.{Takes, Joins, Opens, Tears, Stays}

@@ -6,6 +6,7 @@ use mathlib.Core.Bool.{Bool, true}
 use borrow.Author.Tests.{ltb-true}
 use lib.Dec.{ltb}
 use lib.Ieee.{Float, binary64, sub}
+use Rattle.float64.specs.Unit.{inUnit}
 use Rattle.control_point.specs.Direction.{flipOf}
 use Rattle.control_point.specs.Point.{isMade}
 use Rattle.control_point.specs.Small.{small}
@@ -18,7 +19,7 @@ use Rattle.control_point.specs.declared.t_mesh_control_point.Side.the-variants.
 use Rattle.control_point.specs.declared.t_mesh_direction.TmeshDirection.{TmeshDirection}
 use Rattle.store.specs.Store.{storeSides, readSide}
 use Rattle.store.specs.declared.store.Store.{Store}
-use Rattle.insertion.specs.Insert.{inUnit, checkedIntervals, checkedFacing, checkedSide, checked, placed, sided, passed, insertPoint}
+use Rattle.insertion.specs.Insert.{checkedIntervals, checkedFacing, checkedSide, checked, placed, sided, passed, insertPoint}
 use Rattle.insertion.specs.declared.insertion.Checked.{Checked}
 use Rattle.insertion.specs.declared.insertion.InsertAnswer.the-variants.{Refused}
 use Rattle.insertion.specs.declared.insertion.Inserted.{Inserted}

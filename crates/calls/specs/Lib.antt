@@ -18,3 +18,5 @@ pub mod Readings
 pub mod ReadingsProof
 pub mod CellReadings
 pub mod CellReadingsProof
+pub mod SetPointReadings
+pub mod SetPointReadingsProof

@@ -3,7 +3,7 @@
 -- at 7.0 stands in the mesh, linked and not listed, and whose evaluation has a positive and finite weight and lies in 0 to 1.
 -- Torn insertions are withdrawn where the call says so: the same insertion is then answered the same and leaves the map as it was, whether it keeps knots or not.
 -- A corner's pull of 3.0 draws an evaluation towards the corner; settings of pulls are refused 11 and 17, and then change nothing; −0.0 is set, and a torn point's
--- pull; with every pull 0.0 a set-point is refused 15.
+-- pull.
 use Prim.Native.Nat.{ℕ}
 use mathlib.Core.Path.{_≡_}
 use mathlib.Core.Bool.{true, false}
@@ -24,7 +24,7 @@ use Rattle.t_mesh.specs.Tmesh.{Axis, X, positionOf, pullOf, storeOf, isListed, 
 use Rattle.t_mesh.specs.declared.t_mesh.Position.{Position}
 use Rattle.t_mesh.specs.declared.t_mesh.Tmesh.{Tmesh}
 use Rattle.pull.specs.Pull.{setPull}
-use Rattle.surface.specs.Evaluation.{evaluationNumber, onAxis, subsOf, asSetPoint}
+use Rattle.surface.specs.Evaluation.{onAxis}
 use Rattle.surface.specs.declared.evaluation.Evaluation.{Evaluation}
 use Rattle.surface.specs.declared.evaluation.EvaluationAnswer.the-variants.{Is}
 use Rattle.calls.specs.Calls.{Call, insertion, evaluation, pulling, inserted, evaluated, pulled, answerTo, mapAfter, runOf}
@@ -187,13 +187,6 @@ TurnedAway number n pull = (outcomeNumber (setPull plate n pull .outcome) ≡ nu
 abbrev pub SetOn : Tmesh → ℕ → Float → Type 0
 SetOn map n pull = (outcomeNumber (setPull map n pull .outcome) ≡ 0) × (pullOf (setPull map n pull .map) n ≡ pull)
 
--- a point's pull set to 0.0, and so that of every corner
-abbrev pub letGo : Tmesh → ℕ → Tmesh
-letGo map n = mapAfter millionth map (pulling n zeroLiteral)
-
-abbrev pub weightlessPlate : Tmesh
-weightlessPlate = letGo (letGo (letGo (letGo plate 0) 1) 2) 3
-
 pub record PullsAnswered : Type 0 where
   -- a number never made: 11, also where the pull is a NaN
   pub unmade : TurnedAway 11 4 three
@@ -205,8 +198,6 @@ pub record PullsAnswered : Type 0 where
   -- −0.0 is set, and so is the pull of the torn point, which is not listed
   pub minus-zero : SetOn plate 2 (ofBits binary64 0x8000_0000_0000_0000)
   pub torn : SetOn (mapAfter millionth plate tearing) 4 three
-  -- with no weight left a set-point is refused 15
-  pub weightless : evaluationNumber (asSetPoint (subsOf millionth weightlessPlate half half .answer)) ≡ 15
 
 -- all of these
 abbrev pub NotEmpty : Type 0

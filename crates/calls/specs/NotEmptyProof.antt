@@ -3,6 +3,7 @@ use mathlib.Core.List.{List}
 use mathlib.Core.Path.{refl, sym, subst}
 use lib.Ieee.{Float, ofBits, ofFields, add, sub, mul, div, sum, round, units, odd, size, span, climb, neg, le, lt, eq}
 use Rattle.float64.specs.Literals.{zeroLiteral, oneLiteral}
+use Rattle.float64.specs.Unit.{inUnit}
 use Rattle.basis.specs.Formula.{sumOfTerms, formula}
 use Rattle.control_point.specs.Connect.{connectable}
 use Rattle.control_point.specs.Point.{isMade}
@@ -11,7 +12,7 @@ use Rattle.control_point.specs.Small.{millionth, small}
 use Rattle.navigation.specs.Walk.{onward, walkOf}
 use Rattle.search.specs.Search.{judgeAt, seekFrom, findInferredConnection}
 use Rattle.store.specs.Store.{connectPoints}
-use Rattle.insertion.specs.Insert.{inUnit, checked, checkedIntervals, placed, newSide, firstSide, withFirst, secondSide, sided, insertPoint}
+use Rattle.insertion.specs.Insert.{checked, checkedIntervals, placed, newSide, firstSide, withFirst, secondSide, sided, insertPoint}
 use Rattle.insertion.specs.declared.insertion.InsertAnswer.the-variants.{Done, Torn, Refused}
 use Rattle.ray_approach.specs.Approach.{approachIn, approachOf}
 use Rattle.ray.specs.Ray.{rayFrom, rayOf}
@@ -20,8 +21,8 @@ use Rattle.t_mesh.specs.Tmesh.{Axis, X, Y, Z, coordinate, newTmesh}
 use Rattle.t_mesh.specs.Insertion.{addControlPoint}
 use Rattle.pull.specs.Pull.{setPull}
 use Rattle.knot_vectors.specs.Knots.{rowsFrom, allKnots, generateKnotVectors}
-use Rattle.surface.specs.Evaluation.{onAxis, sumFrom, valueOf, withKnots, subsOf, setPoint}
-use Rattle.calls.specs.Calls.{Call, insertion, evaluation, question, pulling, Answer, inserted, evaluated, questioned, pulled, Event, runOf}
+use Rattle.surface.specs.Evaluation.{onAxis, sumFrom, valueOf, withKnots, subsOf}
+use Rattle.calls.specs.Calls.{Call, insertion, evaluation, set-point, question, pulling, Answer, inserted, evaluated, questioned, pulled, Event, runOf}
 use Rattle.calls.specs.FullStroke.{InUnit, Each, DoneInUnit, Premises}
 use Rattle.calls.specs.ExampleValues.{positionAt}
 use Rattle.calls.specs.NotEmpty.{FullRun, FullStrokeTouched, inside, bottomLeft, bottomRight, topRight, topLeft, plate, TornRun, TornStands, TornPointPassedOver, WithdrawnLeavesMap, pulledCalls, PulledRun, PullMovesGate, PullsAnswered, NotEmpty}
@@ -30,6 +31,7 @@ use Rattle.calls.specs.NotEmpty.{FullRun, FullStrokeTouched, inside, bot
 abbrev PlacedInUnit : Axis → Call → Type 0
 PlacedInUnit axis (insertion withdraws con d ratio position) = InUnit (coordinate axis position)
 PlacedInUnit axis (evaluation s t) = Unit {0}
+PlacedInUnit axis (set-point s t) = Unit {0}
 PlacedInUnit axis (question cell) = Unit {0}
 PlacedInUnit axis (pulling n pull) = Unit {0}
 
@@ -58,7 +60,7 @@ one-in-unit = (tt, tt)
 -- ---- the calls
 computed : FullRun × (TornRun × (TornStands × (WithdrawnLeavesMap × (PulledRun × PullsAnswered))))
 unfolding runOf newTmesh addControlPoint insertPoint inUnit checked checkedIntervals placed newSide firstSide withFirst secondSide sided
-    connectPoints connectable isMade sidesOf millionth small findInferredConnection seekFrom judgeAt walkOf onward subsOf withKnots setPull setPoint
+    connectPoints connectable isMade sidesOf millionth small findInferredConnection seekFrom judgeAt walkOf onward subsOf withKnots setPull
     generateKnotVectors allKnots rowsFrom pointKnotVectors knotsAt rayOf rayFrom approachOf approachIn valueOf sumFrom formula sumOfTerms
     le lt eq ofBits ofFields add sub mul div sum round units odd size span climb neg
 computed =
@@ -72,7 +74,6 @@ computed =
       not-a-number = (refl, refl);
       minus-zero = (refl, refl);
       torn = (refl, refl);
-      weightless = refl;
     } in
     (refl, (refl, ((refl, (refl, refl)), (withdrawn, (refl, pulls)))))
 

@@ -1,6 +1,7 @@
 -- The plate readings, by computing: the calls run on closed values, but for positions, which nothing looks at.
 use mathlib.Core.Path.{refl}
 use lib.Ieee.{ofBits, ofFields, add, sub, mul, div, sum, round, units, odd, size, span, climb, neg, le, lt, eq}
+use Rattle.float64.specs.Unit.{inUnit}
 use Rattle.basis.specs.Formula.{sumOfTerms, formula}
 use Rattle.control_point.specs.Connect.{connectable}
 use Rattle.control_point.specs.Point.{isMade}
@@ -9,7 +10,7 @@ use Rattle.control_point.specs.Small.{millionth, small}
 use Rattle.navigation.specs.Walk.{onward, walkOf}
 use Rattle.search.specs.Search.{judgeAt, seekFrom, findInferredConnection}
 use Rattle.store.specs.Store.{emptyStore, makeLoose, connectPoints, removeEdgeCondition}
-use Rattle.insertion.specs.Insert.{inUnit, checked, checkedIntervals, placed, newSide, firstSide, withFirst, secondSide, sided, insertPoint}
+use Rattle.insertion.specs.Insert.{checked, checkedIntervals, placed, newSide, firstSide, withFirst, secondSide, sided, insertPoint}
 use Rattle.ray_approach.specs.Approach.{approachIn, approachOf}
 use Rattle.ray.specs.Ray.{rayFrom, rayOf}
 use Rattle.ray.specs.Knots.{knotsAt, pointKnotVectors}

@@ -5,12 +5,13 @@ use mathlib.Core.Path.{_≡_}
 use mathlib.Core.Bool.{Bool, true, false}
 use mathlib.Core.List.{List, [], _∷_}
 use lib.Dec.{T}
-use lib.Ieee.{inf, lt}
+use lib.Ieee.{Float, inf, lt}
 use Rattle.float64.specs.Sign.{0f}
 use Rattle.t_mesh.specs.Tmesh.{Axis, coordinate, pullOf, storeOf}
 use Rattle.t_mesh.specs.declared.t_mesh.Place.{Place}
 use Rattle.t_mesh.specs.declared.t_mesh.Tmesh.{Tmesh}
 use Rattle.surface.specs.Evaluation.{onAxis}
+use Rattle.surface.specs.declared.evaluation.EvaluationAnswer.{EvaluationAnswer}
 use Rattle.surface.specs.declared.evaluation.EvaluationAnswer.the-variants.{Is, Refused}
 use Rattle.calls.specs.Calls.{Answer, inserted, evaluated, questioned, pulled}
 use Rattle.calls.specs.FullStroke.{InUnit}
@@ -28,6 +29,15 @@ pub record Sound (axis : Axis) (map : Tmesh) : Type 0 where
   pub rows : GoodRows (map .knots)
   pub points : ListedInUnit axis (map .mesh .listed) (map .mesh .places)
   pub pulls : (n : ℕ) → NotNegative (pullOf map n)
+
+-- a value lies in 0 to 1 on the axis, and so, if the answer of a set-point at (s, t) is one, do s and t
+abbrev pub ValueInUnit : Axis → EvaluationAnswer → Type 0
+ValueInUnit axis (Is value) = InUnit (onAxis axis value)
+ValueInUnit axis (Refused refusal) = Unit {0}
+
+abbrev pub SetPointOnAxis : Axis → Float → Float → EvaluationAnswer → Type 0
+SetPointOnAxis axis s t (Is value) = InUnit s × (InUnit t × InUnit (onAxis axis value))
+SetPointOnAxis axis s t (Refused refusal) = Unit {0}
 
 -- an answer that is a value with a positive and finite total weight lies in 0 to 1 on the axis
 abbrev pub AnswerInUnit : Axis → Answer → Type 0

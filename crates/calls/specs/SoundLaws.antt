@@ -1,4 +1,4 @@
--- `Tmesh::new` makes a sound map, and insertion, evaluation, question and the setting of a pull keep it sound; an evaluation of a sound map is a mean of numbers in 0 to 1
+-- `Tmesh::new` makes a sound map, and insertion, evaluation, set-point, question and the setting of a pull keep it sound; an evaluation of a sound map is a mean of numbers in 0 to 1
 -- with weights that are products of two basis functions and a pull, so NaN or not negative.
 use Prim.Native.Nat.{ℕ, zero, suc, _+_}
 use mathlib.Core.Path.{_≡_, refl, sym, subst}
@@ -9,6 +9,7 @@ use lib.Ieee.{Float, inf, binary64, add, le, lt, fits}
 use lib.Ieee.Fits.{nan-fits, mul-fits}
 use lib.ListN.{getD, set, replicate}
 use Rattle.float64.specs.Literals.{zeroLiteral, oneLiteral}
+use Rattle.float64.specs.Unit.{inUnit}
 use Rattle.float64.specs.Sign.{0f}
 use Rattle.float64.specs.SignLaws.{literal-zero, literal-one, le→nonneg, nonneg→nonnegOrNan, nonnegOrNan-mul}
 use Rattle.float64.specs.Mean.{Admitted}
@@ -34,7 +35,10 @@ use Rattle.pull.specs.Pull.{canPull, repulled, setPull}
 use Rattle.knot_vectors.specs.Knots.{AllKnots, all, none, allKnots, keeping, generateKnotVectors}
 use Rattle.grid_index.specs.Index.{noKnots}
 use Rattle.surface.specs.Evaluation.{knotsOf, basisOf, weightOf, sumFrom, shareWith, meanWith, totalWeight, valueOf, withKnots, subsOf, evaluatedBy}
-use Rattle.surface.specs.declared.evaluation.EvaluationAnswer.the-variants.{Is}
+use Rattle.surface.specs.SetPoint.{weighty, whereWeighty, weighed, setPoint}
+use Rattle.surface.specs.SetPointLaws.{set-point-case}
+use Rattle.surface.specs.declared.evaluation.EvaluationAnswer.{EvaluationAnswer}
+use Rattle.surface.specs.declared.evaluation.EvaluationAnswer.the-variants.{Is, Refused as NoValue}
 use Rattle.knot_vectors.specs.declared.knots.Generated.{Generated}
 use Rattle.cells.specs.Cells.{cellPoints}
 use Rattle.calls.specs.Calls.{evaluated}
@@ -46,7 +50,7 @@ use Rattle.calls.specs.GoodLaws.{zero-not-negative, loose-point, point-i
 use Rattle.calls.specs.GoodKnotsLaws.{blank-knots, no-knots, good-rows}
 use Rattle.calls.specs.PullingLaws.{pulled-case}
 use Rattle.calls.specs.RowsLaws.{OfRows}
-use Rattle.calls.specs.Sound.{ListedInUnit, Sound, AnswerInUnit}
+use Rattle.calls.specs.Sound.{ListedInUnit, Sound, ValueInUnit, SetPointOnAxis, AnswerInUnit}
 
 -- ---- listed places
 module _ (axis : Axis) where
@@ -224,6 +228,41 @@ evaluation-sound axis e map sound s t = by-outcome (withKnots e map .outcome) (w
         → AnswerInUnit axis (evaluated (evaluatedBy outcome map s t .answer)) × Sound axis (evaluatedBy outcome map s t .map)
     by-outcome Built map sound = (value-in-unit axis map sound s t, sound)
     by-outcome (NotBuilt refusal) map sound = (tt, sound)
+
+-- ---- a set-point
+-- an evaluation's answer, with its weight tested
+weighed-in-unit : (axis : Axis) (answer : EvaluationAnswer) → AnswerInUnit axis (evaluated answer) → ValueInUnit axis (weighed answer)
+unfolding whereWeighty
+weighed-in-unit axis (Is value) h =
+    cond-case (weighty value) (ValueInUnit axis) _ _
+    (λ passed.
+    let both = and-both (lt zeroLiteral (value .weight)) (lt (value .weight) (inf false)) passed in
+    h (subst (λ (least : Float). T (lt least (value .weight))) literal-zero (subst T (sym (both .0)) tt)) (subst T (sym (both .1)) tt))
+    (λ _. tt)
+weighed-in-unit axis (NoValue refusal) h = tt
+
+-- a float that passes the test lies in 0 to 1
+passes-in-unit : (x : Float) → inUnit x ≡ true → InUnit x
+unfolding inUnit
+passes-in-unit x h =
+    let both = and-both (le zeroLiteral x) (le x oneLiteral) h in (
+      subst (λ (least : Float). T (le least x)) literal-zero (subst T (sym (both .0)) tt),
+      subst (λ (most : Float). T (le x most)) literal-one (subst T (sym (both .1)) tt),
+    )
+
+pub set-point-sound : (axis : Axis) (e : Float) (map : Tmesh) → Sound axis map → (s t : Float)
+    → SetPointOnAxis axis s t (setPoint e map s t .answer) × Sound axis (setPoint e map s t .map)
+set-point-sound axis e map sound s t =
+    let evaluated = evaluation-sound axis e map sound s t in
+    set-point-case e map s t (λ given. SetPointOnAxis axis s t (given .answer) × Sound axis (given .map))
+    (λ on.
+    let both = and-both (inUnit s) (inUnit t) on in
+    (placed (passes-in-unit s (both .0)) (passes-in-unit t (both .1)) (weighed (subsOf e map s t .answer)) (weighed-in-unit axis (subsOf e map s t .answer) (evaluated .0)), evaluated .1))
+    (λ _. (tt, sound))
+  where
+    placed : InUnit s → InUnit t → (answer : EvaluationAnswer) → ValueInUnit axis answer → SetPointOnAxis axis s t answer
+    placed in-s in-t (Is value) h = (in-s, (in-t, h))
+    placed in-s in-t (NoValue refusal) h = tt
 
 -- ---- a question
 pub question-sound : (axis : Axis) (e : Float) (map : Tmesh) → Sound axis map → (cell : ℕ) → Sound axis (cellPoints e map cell .map)

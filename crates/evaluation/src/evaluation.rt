@@ -1,10 +1,9 @@
 // The surface at (s, t).
 ghost use mathlib.Core.Path.{_≡_};
 ghost use Rattle.control_point.specs.Small.{millionth};
-ghost use Rattle.surface.specs.Evaluation.{evaluationTold, shareBy, answerBy, subsOf, subsTable, weighty, setPoint, asSetPoint, setPointTable};
+ghost use Rattle.surface.specs.Evaluation.{evaluationTold, shareBy, answerBy, subsOf, subsTable};
 use basis::basis_function;
 use control_point::refusal::Outcome;
-use control_point::refusal::Refusal;
 use knot_vectors::knots::generate_knot_vectors;
 use ray::knots::PointKnots;
 use surface::evaluation::Evaluated;
@@ -77,33 +76,4 @@ pub fn subs(mut map: Tmesh, s: f64, t: f64) -> Evaluated
     };
     let answer = answer_by(outcome, value);
     Evaluated { answer, map }
-}
-
-// Whether the weight is positive and finite.
-fn is_weighty(value: Evaluation) -> bool
-    ensures { λ r. ⌜ r ≡ weighty value ⌝ }
-{
-    0.0 < value.weight && value.weight < 1.0 / 0.0
-}
-
-// The value as a set-point, refused unless its weight is positive and finite.
-pub fn set_point(value: Evaluation) -> EvaluationAnswer
-    ensures is { λ r. ⌜ r ≡ setPoint value ⌝ }
-    ensures told { λ r. ⌜ evaluationTold r ≡ setPointTable value ⌝ }
-{
-    if is_weighty(value) {
-        EvaluationAnswer::Is(value)
-    } else {
-        EvaluationAnswer::Refused(Refusal::NoWeight)
-    }
-}
-
-// An evaluation's answer as a set-point.
-pub fn as_set_point(answer: EvaluationAnswer) -> EvaluationAnswer
-    ensures { λ r. ⌜ r ≡ asSetPoint answer ⌝ }
-{
-    match answer {
-        EvaluationAnswer::Is(value) => set_point(value),
-        EvaluationAnswer::Refused(refusal) => EvaluationAnswer::Refused(refusal),
-    }
 }

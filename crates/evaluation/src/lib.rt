@@ -1,2 +1,2 @@
-// Evaluation of a map: the surface at (s, t), and the set-point.
+// Evaluation of a map: the surface at (s, t).
 pub mod evaluation;

@@ -8,10 +8,11 @@ use lib.ListN.{length}
 use Rattle.control_point.specs.Small.{millionth}
 use Rattle.census.specs.Census.{countsOf}
 use Rattle.surface.specs.Evaluation.{evaluationNumber}
+use Rattle.surface.specs.SetPoint.{setPoint}
 use Rattle.surface.specs.declared.evaluation.EvaluationAnswer.{EvaluationAnswer}
 use Rattle.t_mesh.specs.Tmesh.{storeOf}
 use Rattle.map_format.specs.Format.{checkedFile}
-use Rattle.map_file.specs.Run.{fileMap, fileNumbers, setPointAt, checkedSetPoint, fileSetPoint}
+use Rattle.map_file.specs.Run.{fileMap, fileNumbers, checkedSetPoint, fileSetPoint}
 use Rattle.counted_file.specs.declared.FileCheck.{FileCheck}
 use Rattle.counted_file.specs.declared.FileCheck.the-variants.{Valid, Refused}
 use Rattle.openings.specs.Openings.{openingsOf}
@@ -29,7 +30,7 @@ found-by file s t room check is enough = rw (le-leb valueBytes room enough) (ap 
 
 -- the set-point that the report's last line is of
 answer-at : (file : List ℕ) (count room : ℕ) → checkedFile file ≡ Valid count → 32 ≤ room
-    → hostAnswer file halfBits halfBits room ≡ setPointAt millionth (fileMap millionth file count) half half
+    → hostAnswer file halfBits halfBits room ≡ setPoint millionth (fileMap millionth file count) half half .answer
 answer-at file count room valid enough = found-by file halfBits halfBits room (Valid count) valid enough
 
 pub ends-agree : EndsAgree

@@ -1,19 +1,17 @@
--- The bound for files: a file's edits and one evaluation are a list of calls, to which the bound over lists applies; what the call wrote of its answer is read
+-- The bound for files: a file's edits and one set-point are a list of calls, to which the bound over lists applies; what the call wrote of its answer is read
 -- back as it was.
-use Prim.Native.Nat.{ℕ, zero, _≤_, _<_}
+use Prim.Native.Nat.{ℕ, _≤_, _<_}
 use mathlib.Core.Path.{_≡_, refl, sym, ap, _∙_, subst}
 use mathlib.Core.Bool.{Bool, true, false, cond}
 use mathlib.Core.List.{List, [], _∷_, _++_, append-assoc}
 use native.Mathlib.Omega.{arith}
 use lib.Dec.{T, leb, leb→le, lit<}
-use lib.Ieee.{Float, inf, binary64, ofBits, toBits, lt, le, fits}
+use lib.Ieee.{Float, binary64, ofBits, toBits, le, fits}
 use lib.Ieee.Bits.{toBits-lt}
-use lib.Ieee.Fits.{and-l, and-r, div-fits}
+use lib.Ieee.Fits.{div-fits}
 use lib.ListN.{length, length-append}
 use Rattle.float64.specs.BitsLaws.{read-back}
-use Rattle.float64.specs.Literals.{zeroLiteral}
 use Rattle.float64.specs.Sign.{0f}
-use Rattle.float64.specs.SignLaws.{literal-zero}
 use Rattle.big_endian.specs.BigEndian.{floatAt}
 use Rattle.big_endian.specs.ReadBackLaws.{number-back}
 use Rattle.big_endian.specs.Written.{written}
@@ -27,12 +25,14 @@ use Rattle.control_point.specs.declared.refusal.Refusal.the-variants.{Ratio, Fo
 use Rattle.t_mesh.specs.Tmesh.{Axis, X, Y, Z, coordinate, noPosition}
 use Rattle.t_mesh.specs.declared.t_mesh.Position.{Position}
 use Rattle.t_mesh.specs.declared.t_mesh.Tmesh.{Tmesh}
-use Rattle.surface.specs.Evaluation.{onAxis, evaluationNumber, valueOf, answerBy, withKnots, weighty, setPoint, subsOf, asSetPoint}
+use Rattle.surface.specs.Evaluation.{onAxis, evaluationNumber, valueOf, answerBy, withKnots, subsOf}
+use Rattle.surface.specs.SetPoint.{setPoint}
+use Rattle.surface.specs.SetPointLaws.{isValue, valueIn, set-point-is}
 use Rattle.surface.specs.declared.evaluation.Evaluation.{Evaluation}
 use Rattle.surface.specs.declared.evaluation.EvaluationAnswer.{EvaluationAnswer}
 use Rattle.surface.specs.declared.evaluation.EvaluationAnswer.the-variants.{Is, Refused}
-use Rattle.calls.specs.Calls.{Call, insertion, evaluation, question, pulling, Answer, evaluated, runOf}
-use Rattle.calls.specs.FullStroke.{InUnit, Each, DoneInUnit as CallDoneInUnit, EvaluationInUnit}
+use Rattle.calls.specs.Calls.{Call, insertion, evaluation, set-point, question, pulling, Answer, evaluated, runOf}
+use Rattle.calls.specs.FullStroke.{InUnit, Each, DoneInUnit as CallDoneInUnit, SetPointInUnit}
 use Rattle.calls.specs.FullStrokeProof.{never-past-full-stroke}
 use Rattle.counting.specs.BoolLaws.{cond-case}
 use Rattle.soundness.specs.MapCalls.{answerTold}
@@ -46,25 +46,27 @@ use Rattle.file_soundness.specs.CallsLaws.{callsOf}
 use Rattle.file_soundness.specs.Theorems.{DoneInUnit, placeOf, mapOf, FileNeverPastFullStroke}
 
 -- ---- the list of calls
--- the edits, then one evaluation
-abbrev withEvaluation : Bool → List Edit → Float → Float → List Call
-withEvaluation withdraws edits s t = callsOf withdraws edits ++ (evaluation s t ∷ [])
+-- the edits, then one set-point
+abbrev withSetPoint : Bool → List Edit → Float → Float → List Call
+withSetPoint withdraws edits s t = callsOf withdraws edits ++ (set-point s t ∷ [])
 
 abbrev isInsertion : Call → Type 0
 isInsertion (insertion withdraws con d ratio position) = Unit {0}
 isInsertion (evaluation s t) = ⊥
+isInsertion (set-point s t) = ⊥
 isInsertion (question cell) = ⊥
 isInsertion (pulling n pull) = ⊥
 
 abbrev positionIn : Call → Position
 positionIn (insertion withdraws con d ratio position) = position
 positionIn (evaluation s t) = noPosition
+positionIn (set-point s t) = noPosition
 positionIn (question cell) = noPosition
 positionIn (pulling n pull) = noPosition
 
 module _ (axis : Axis) (withdraws : Bool) (e s t : Float) where
   done-calls : (edits : List Edit) (map : Tmesh) → DoneInUnit axis edits (editNumbers withdraws e map edits)
-      → Each (CallDoneInUnit axis) (runOf e map (withEvaluation withdraws edits s t))
+      → Each (CallDoneInUnit axis) (runOf e map (withSetPoint withdraws edits s t))
   unfolding editAnswers callsOf runOf
   done-calls [] map done = ((λ rule con d ratio position opened links is answered. absurd (subst isInsertion (sym is) tt)), tt)
   done-calls (edit ∷ rest) map done = (
@@ -74,32 +76,13 @@ module _ (axis : Axis) (withdraws : Bool) (e s t : Float) where
   )
 
   -- what is said of the last call
-  last-call : (edits : List Edit) (map : Tmesh) → Each (EvaluationInUnit axis) (runOf e map (withEvaluation withdraws edits s t))
-      → EvaluationInUnit axis (record { call = evaluation s t; answer = evaluated (subsOf e (afterEdits withdraws e map edits) s t .answer) })
+  last-call : (edits : List Edit) (map : Tmesh) → Each (SetPointInUnit axis) (runOf e map (withSetPoint withdraws edits s t))
+      → SetPointInUnit axis (record { call = set-point s t; answer = evaluated (setPoint e (afterEdits withdraws e map edits) s t .answer) })
   unfolding afterEdits callsOf runOf
   last-call [] map each = each .0
   last-call (edit ∷ rest) map each = last-call rest (edited withdraws e map edit .map) (each .1)
 
 -- ---- the answer
-abbrev isValue : EvaluationAnswer → Type 0
-isValue (Is value) = Unit {0}
-isValue (Refused refusal) = ⊥
-
-abbrev valueIn : Evaluation → EvaluationAnswer → Evaluation
-valueIn other (Is value) = value
-valueIn other (Refused refusal) = other
-
--- a set-point is the value, and its weight is positive and finite
-chosen : (b : Bool) (own value : Evaluation) → cond b (Is own) (Refused NoWeight) ≡ Is value → (own ≡ value) × T b
-chosen true own value is = (ap (valueIn own) is, tt)
-chosen false own value is = absurd (subst isValue (sym is) tt)
-
-set-point-is : (answer : EvaluationAnswer) (value : Evaluation) → asSetPoint answer ≡ Is value → (answer ≡ Is value) × T (weighty value)
-unfolding setPoint
-set-point-is (Is own) value is =
-    let both = chosen (weighty own) own value is in (ap Is (both .0), subst (λ (v : Evaluation). T (weighty v)) (both .0) (both .1))
-set-point-is (Refused refusal) value is = absurd (subst isValue (sym is) tt)
-
 -- a value of an evaluation is a quotient on each axis
 quotient-fits : (axis : Axis) (map : Tmesh) (s t : Float) → T (fits binary64 (onAxis axis (valueOf map s t)))
 unfolding valueOf
@@ -189,6 +172,10 @@ written-back Z value out fit room =
     (subst (λ (text : List ℕ). length text ≤ length out) (sym same) (subst (λ (n : ℕ). n ≤ length out) (sym (length-value value)) room))))
 
 -- ---- the call
+-- what is shown of a value at (s, t): its place and the value on the axis lie in 0 to 1, and the value is an f64 there
+abbrev Shown : Axis → Float → Float → Evaluation → Type 0
+Shown axis s t value = (InUnit s × (InUnit t × InUnit (onAxis axis value))) × T (fits binary64 (onAxis axis value))
+
 -- the count of a valid file is that of its length
 abbrev pub OwnCount : List ℕ → FileCheck → Type 0
 OwnCount file (Valid count) = count ≡ editCount file
@@ -213,60 +200,54 @@ module _ (file : List ℕ) (axis : Axis) (s t : Float) where
       (corners : (k : ℕ) → k < 4 → InUnit (coordinate axis (cornerOf file k)))
       (done : DoneInUnit axis edits (fileNumbers millionth file (editCount file)))
     where
-      -- an evaluation of the map that the edits leave
-      evaluated-in-unit : EvaluationInUnit axis (record { call = evaluation s t; answer = evaluated (subsOf millionth (mapOf file) s t .answer) })
-      evaluated-in-unit =
-          last-call axis (fileWithdraws file) millionth s t edits (freshMap file)
-          (never-past-full-stroke millionth (floatAt file borderAt) (cornerOf file 0) (cornerOf file 1) (cornerOf file 2) (cornerOf file 3) axis
-          (withEvaluation (fileWithdraws file) edits s t)
-          (record {
-            border = border;
-            bottom-left = corners 0 (lit< tt);
-            bottom-right = corners 1 (lit< tt);
-            top-right = corners 2 (lit< tt);
-            top-left = corners 3 (lit< tt);
-            done = done-calls axis (fileWithdraws file) millionth s t edits (freshMap file) done;
-          }))
-
-      -- the set-point of a value
-      in-unit : (value : Evaluation) → asSetPoint (subsOf millionth (mapOf file) s t .answer) ≡ Is value → InUnit (onAxis axis value) × T (fits binary64 (onAxis axis value))
-      in-unit value is =
-          let both = set-point-is (subsOf millionth (mapOf file) s t .answer) value is in
-          let positive = lt zeroLiteral (value .weight) in
-          let finite = lt (value .weight) (inf false) in (
-            evaluated-in-unit value (ap evaluated (both .0))
-                (subst (λ (zero : Float). T (lt zero (value .weight))) literal-zero (and-l positive finite (both .1)))
-                (and-r positive finite (both .1)),
-            value-fits axis millionth (mapOf file) s t value (both .0),
-          )
+      -- the set-point of the map that the edits leave
+      in-unit : (value : Evaluation) → setPoint millionth (mapOf file) s t .answer ≡ Is value → Shown axis s t value
+      in-unit value is = (
+        last-call axis (fileWithdraws file) millionth s t edits (freshMap file)
+            (never-past-full-stroke millionth (floatAt file borderAt) (cornerOf file 0) (cornerOf file 1) (cornerOf file 2) (cornerOf file 3) axis
+            (withSetPoint (fileWithdraws file) edits s t)
+            (record {
+              border = border;
+              bottom-left = corners 0 (lit< tt);
+              bottom-right = corners 1 (lit< tt);
+              top-right = corners 2 (lit< tt);
+              top-left = corners 3 (lit< tt);
+              done = done-calls axis (fileWithdraws file) millionth s t edits (freshMap file) done;
+            })
+            .1)
+            s t value refl (ap evaluated is),
+        value-fits axis millionth (mapOf file) s t value (set-point-is millionth (mapOf file) s t value is .1 .0),
+      )
 
       -- a file that is valid has its own count of edits
-      checked-in-unit : (check : FileCheck) → OwnCount file check → (value : Evaluation) → checkedSetPoint millionth file s t check ≡ Is value
-          → InUnit (onAxis axis value) × T (fits binary64 (onAxis axis value))
+      checked-in-unit : (check : FileCheck) → OwnCount file check → (value : Evaluation) → checkedSetPoint millionth file s t check ≡ Is value → Shown axis s t value
       checked-in-unit (Valid count) own value is =
-          in-unit value (subst (λ (n : ℕ). asSetPoint (subsOf millionth (fileMap millionth file n) s t .answer) ≡ Is value) own is)
+          in-unit value (subst (λ (n : ℕ). setPoint millionth (fileMap millionth file n) s t .answer ≡ Is value) own is)
       checked-in-unit (NotValid refusal) own value is = absurd (subst isValue (sym is) tt)
 
--- what the buffer holds, by the answer
-buffer-in-unit : (axis : Axis) (answer : EvaluationAnswer) (out : List ℕ) → 32 ≤ length out
-    → ((value : Evaluation) → answer ≡ Is value → InUnit (onAxis axis value) × T (fits binary64 (onAxis axis value)))
-    → evaluationNumber answer ≡ 0
-    → InUnit (floatAt (bufferAfter answer out) (placeOf axis))
-buffer-in-unit axis (Is value) out room says answered = subst InUnit (sym (written-back axis value out (says value refl .1) room)) (says value refl .0)
-buffer-in-unit axis (Refused refusal) out room says answered = absurd (numbered refusal answered)
+module _ (axis : Axis) (s t : Float) (out : List ℕ) where
+  -- the same of what is read in a buffer
+  abbrev Written : List ℕ → Type 0
+  Written bytes = InUnit s × (InUnit t × InUnit (floatAt bytes (placeOf axis)))
 
--- with room for a value or without
-with-room : (axis : Axis) (enough : Bool) (answer : EvaluationAnswer) (out : List ℕ) → (T enough → 32 ≤ length out)
-    → ((value : Evaluation) → answer ≡ Is value → InUnit (onAxis axis value) × T (fits binary64 (onAxis axis value)))
-    → evaluationNumber (cond enough answer (Refused Short)) ≡ 0
-    → InUnit (floatAt (bufferAfter (cond enough answer (Refused Short)) out) (placeOf axis))
-with-room axis true answer out room says answered = buffer-in-unit axis answer out (room tt) says answered
-with-room axis false answer out room says answered = absurd (numbered Short answered)
+  -- what the buffer holds, by the answer
+  buffer-in-unit : (answer : EvaluationAnswer) → 32 ≤ length out → ((value : Evaluation) → answer ≡ Is value → Shown axis s t value)
+      → evaluationNumber answer ≡ 0 → Written (bufferAfter answer out)
+  buffer-in-unit (Is value) room says answered =
+      let shown = says value refl in (shown .0 .0, (shown .0 .1 .0, subst InUnit (sym (written-back axis value out (shown .1) room)) (shown .0 .1 .1)))
+  buffer-in-unit (Refused refusal) room says answered = absurd (numbered refusal answered)
+
+  -- with room for a value or without
+  with-room : (enough : Bool) (answer : EvaluationAnswer) → (T enough → 32 ≤ length out) → ((value : Evaluation) → answer ≡ Is value → Shown axis s t value)
+      → evaluationNumber (cond enough answer (Refused Short)) ≡ 0
+      → Written (bufferAfter (cond enough answer (Refused Short)) out)
+  with-room true answer room says answered = buffer-in-unit answer (room tt) says answered
+  with-room false answer room says answered = absurd (numbered Short answered)
 
 pub file-never-past-full-stroke : FileNeverPastFullStroke
 unfolding hostAnswer fileSetPoint
 file-never-past-full-stroke file s t out axis border corners done answered =
-    with-room axis (leb 32 (length out)) (checkedSetPoint millionth file (ofBits binary64 s) (ofBits binary64 t) (checkedFile file)) out
+    with-room axis (ofBits binary64 s) (ofBits binary64 t) out (leb 32 (length out)) (checkedSetPoint millionth file (ofBits binary64 s) (ofBits binary64 t) (checkedFile file))
     (leb→le 32 (length out))
     (λ value is. checked-in-unit file axis (ofBits binary64 s) (ofBits binary64 t) border corners done (checkedFile file) (own-count file) value is)
     answered

@@ -1,30 +1,32 @@
--- The C calls' numbers: each test of the file has its own, an evaluation and a question are refused 3, 4 or 9, and a set-point 15.
+-- The C calls' numbers: each test of the file has its own, a question is refused 3, 4 or 9, and a set-point so too, or 15, and 20 exactly where it lies off the map.
 use Prim.Native.Nat.{ℕ}
-use mathlib.Core.Path.{_≡_, refl, subst}
+use mathlib.Core.Path.{_≡_, refl, sym, ap, subst}
+use mathlib.Core.Bool.{Bool, true, false, cond, not, _&&_}
 use mathlib.Core.List.{List, [], _∷_}
 use mathlib.Core.Logic.{inl, inr}
-use lib.Dec.{leb}
+use native.Mathlib.Omega.{arith}
+use lib.Dec.{eqb, leb}
 use lib.Ieee.{Float, binary64, ofBits}
 use lib.ListN.{length}
 use Rattle.big_endian.specs.BigEndian.{floatAt}
 use Rattle.control_point.specs.Refusal.{refusalNumber}
 use Rattle.control_point.specs.Small.{millionth}
 use Rattle.control_point.specs.declared.refusal.Refusal.{Refusal}
+use Rattle.control_point.specs.declared.refusal.Refusal.the-variants.{Short}
 use Rattle.counting.specs.BoolLaws.{cond-case}
-use Rattle.surface.specs.Evaluation.{evaluationNumber, weighty, setPoint, subsOf, asSetPoint}
-use Rattle.surface.specs.declared.evaluation.Evaluation.{Evaluation}
+use Rattle.surface.specs.Evaluation.{evaluationNumber}
+use Rattle.surface.specs.SetPoint.{onMap, setPoint}
 use Rattle.surface.specs.declared.evaluation.EvaluationAnswer.{EvaluationAnswer}
 use Rattle.surface.specs.declared.evaluation.EvaluationAnswer.the-variants.{Is, Refused as NoValue}
 use Rattle.t_mesh.specs.declared.t_mesh.Tmesh.{Tmesh}
 use Rattle.soundness.specs.MapCalls.{entries}
 use Rattle.soundness.specs.Theorems.{OneOf}
-use Rattle.soundness.specs.EveryMapProof.{evaluation-refusals, question-refusals}
+use Rattle.soundness.specs.EveryMapProof.{set-point-numbers, question-refusals}
 use Rattle.map_format.specs.Format.{borderAt, editsAt, fileWithdraws, editCount, versionOf, isVersion, editsFrom, lengthRight, headingsRight, checkedFile}
 use Rattle.map_file.specs.Run.{cornerOf, freshMap, fileMap, checkedSetPoint, fileSetPoint}
 use Rattle.counted_file.specs.declared.FileCheck.{FileCheck}
 use Rattle.counted_file.specs.declared.FileCheck.the-variants.{Valid, Refused}
-use Rattle.value_bytes.specs.Value.{valueBytes}
-use Rattle.gatemap_host.specs.SetPoint.{hostAnswer}
+use Rattle.gatemap_host.specs.SetPoint.{hostAnswer, bufferAfter}
 use Rattle.gatemap_host.specs.CellCall.{hostCell}
 use Rattle.cell_bytes.specs.CellBytes.{cellBytes}
 use Rattle.cells.specs.Cells.{cellNumber, cellPoints}
@@ -32,7 +34,7 @@ use Rattle.cells.specs.declared.CellAnswer.{CellAnswer}
 use Rattle.cells.specs.declared.CellAnswer.the-variants.{Is as Words, Refused as NoWords}
 use Rattle.map_cell.specs.FileCell.{checkedCell, fileCell}
 use Rattle.file_soundness.specs.CallsLaws.{callsOf, edits-are-calls}
-use Rattle.file_soundness.specs.Theorems.{NumbersNamed, CellNumbersNamed}
+use Rattle.file_soundness.specs.Theorems.{NumbersNamed, isValid, OffMapRefused, CellNumbersNamed}
 
 -- ---- a file
 -- one that is refused has one of its three numbers
@@ -53,44 +55,61 @@ check-named file =
 -- ---- a set-point
 -- the numbers of the header
 abbrev Named : ℕ → Type 0
-Named n = OneOf n (0 ∷ (3 ∷ (4 ∷ (9 ∷ (12 ∷ (13 ∷ (14 ∷ (15 ∷ (16 ∷ [])))))))))
+Named n = OneOf n (0 ∷ (3 ∷ (4 ∷ (9 ∷ (12 ∷ (13 ∷ (14 ∷ (15 ∷ (16 ∷ (20 ∷ []))))))))))
 
-abbrev NamedAnswer : EvaluationAnswer → Type 0
-NamedAnswer answer = Named (evaluationNumber answer)
+-- the number of an answer is named, and 20 or not
+abbrev NamedAnswer : Bool → EvaluationAnswer → Type 0
+NamedAnswer off answer = Named (evaluationNumber answer) × (eqb (evaluationNumber answer) 20 ≡ off)
 
--- one of three is one of all
-of-three : (n : ℕ) → OneOf n (3 ∷ (4 ∷ (9 ∷ []))) → Named n
-of-three n (inl same) = inr (inl same)
-of-three n (inr (inl same)) = inr (inr (inl same))
-of-three n (inr (inr (inl same))) = inr (inr (inr (inl same)))
+-- one of the map's is one of all
+of-map : (n : ℕ) → OneOf n (0 ∷ (3 ∷ (4 ∷ (9 ∷ (15 ∷ (20 ∷ [])))))) → Named n
+of-map n (inl same) = inl same
+of-map n (inr (inl same)) = inr (inl same)
+of-map n (inr (inr (inl same))) = inr (inr (inl same))
+of-map n (inr (inr (inr (inl same)))) = inr (inr (inr (inl same)))
+of-map n (inr (inr (inr (inr (inl same))))) = inr (inr (inr (inr (inr (inr (inr (inl same)))))))
+of-map n (inr (inr (inr (inr (inr (inl same)))))) = inr (inr (inr (inr (inr (inr (inr (inr (inr (inl same)))))))))
 
-of-file : (n : ℕ) → OneOf n (12 ∷ (13 ∷ (14 ∷ []))) → Named n
-of-file n (inl same) = inr (inr (inr (inr (inl same))))
-of-file n (inr (inl same)) = inr (inr (inr (inr (inr (inl same)))))
-of-file n (inr (inr (inl same))) = inr (inr (inr (inr (inr (inr (inl same))))))
+-- and so is one of the file's, and it is not 20
+of-file : (refusal : Refusal) → OneOf (refusalNumber refusal) (12 ∷ (13 ∷ (14 ∷ []))) → NamedAnswer false (NoValue refusal)
+of-file refusal (inl same) = (inr (inr (inr (inr (inl same)))), ap (λ (m : ℕ). eqb m 20) same)
+of-file refusal (inr (inl same)) = (inr (inr (inr (inr (inr (inl same))))), ap (λ (m : ℕ). eqb m 20) same)
+of-file refusal (inr (inr (inl same))) = (inr (inr (inr (inr (inr (inr (inl same)))))), ap (λ (m : ℕ). eqb m 20) same)
 
-set-point-named : (value : Evaluation) → NamedAnswer (setPoint value)
-unfolding setPoint
-set-point-named value = cond-case (weighty value) NamedAnswer _ _ (λ h. inl refl) (λ h. inr (inr (inr (inr (inr (inr (inr (inl refl))))))))
-
-answer-named : (answer : EvaluationAnswer) → ((refusal : Refusal) → answer ≡ NoValue refusal → OneOf (refusalNumber refusal) (3 ∷ (4 ∷ (9 ∷ [])))) → NamedAnswer (asSetPoint answer)
-answer-named (Is value) refused = set-point-named value
-answer-named (NoValue refusal) refused = of-three (refusalNumber refusal) (refused refusal refl)
-
-file-named : (file : List ℕ) (s t : Float) (check : FileCheck) → NamedCheck check → NamedAnswer (checkedSetPoint millionth file s t check)
+file-named : (file : List ℕ) (s t : Float) (check : FileCheck) → NamedCheck check
+    → NamedAnswer (isValid check && not (onMap s t)) (checkedSetPoint millionth file s t check)
 file-named file s t (Valid count) named =
-    answer-named (subsOf millionth (fileMap millionth file count) s t .answer)
-    (λ refusal is.
-    evaluation-refusals millionth (floatAt file borderAt) (cornerOf file 0) (cornerOf file 1) (cornerOf file 2) (cornerOf file 3) (entries (callsOf (fileWithdraws file) (editsFrom count file editsAt))) millionth s t refusal
-    (subst (λ (map : Tmesh). subsOf millionth map s t .answer ≡ NoValue refusal) (edits-are-calls (fileWithdraws file) millionth (freshMap file) (editsFrom count file editsAt)) is))
-file-named file s t (Refused refusal) named = of-file (refusalNumber refusal) named
+    let numbered =
+    set-point-numbers millionth (floatAt file borderAt) (cornerOf file 0) (cornerOf file 1) (cornerOf file 2) (cornerOf file 3) (entries (callsOf (fileWithdraws file) (editsFrom count file editsAt))) millionth s t in
+    subst (λ (map : Tmesh). NamedAnswer (not (onMap s t)) (setPoint millionth map s t .answer))
+    (sym (edits-are-calls (fileWithdraws file) millionth (freshMap file) (editsFrom count file editsAt)))
+    (of-map _ (numbered .0), numbered .1)
+file-named file s t (Refused refusal) named = of-file refusal named
+
+host-named : (file : List ℕ) (s t : ℕ) (room : ℕ)
+    → NamedAnswer (leb 32 room && (isValid (checkedFile file) && not (onMap (ofBits binary64 s) (ofBits binary64 t)))) (hostAnswer file s t room)
+unfolding hostAnswer fileSetPoint
+host-named file s t room = by-room (leb 32 room)
+  where
+    off : Bool
+    off = isValid (checkedFile file) && not (onMap (ofBits binary64 s) (ofBits binary64 t))
+
+    found : EvaluationAnswer
+    found = checkedSetPoint millionth file (ofBits binary64 s) (ofBits binary64 t) (checkedFile file)
+
+    by-room : (enough : Bool) → NamedAnswer (enough && off) (cond enough found (NoValue Short))
+    by-room true = file-named file (ofBits binary64 s) (ofBits binary64 t) (checkedFile file) (check-named file)
+    by-room false = (inr (inr (inr (inr (inr (inr (inr (inr (inl refl)))))))), refl)
 
 pub numbers-named : NumbersNamed
-unfolding hostAnswer fileSetPoint
-numbers-named file s t out =
-    cond-case (leb valueBytes (length out)) NamedAnswer _ _
-    (λ h. file-named file (ofBits binary64 s) (ofBits binary64 t) (checkedFile file) (check-named file))
-    (λ h. inr (inr (inr (inr (inr (inr (inr (inr (inl refl)))))))))
+numbers-named file s t out = host-named file s t (length out) .0
+
+pub off-map-refused : OffMapRefused
+off-map-refused file s t out = (host-named file s t (length out) .1, left (hostAnswer file s t (length out)))
+  where
+    left : (answer : EvaluationAnswer) → evaluationNumber answer ≡ 20 → bufferAfter answer out ≡ out
+    left (Is value) off = absurd (omega (arith, off))
+    left (NoValue refusal) off = refl
 
 -- ---- a cell
 abbrev NamedWords : CellAnswer → Type 0

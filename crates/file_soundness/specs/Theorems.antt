@@ -2,10 +2,10 @@
 -- gets is `hostNumber` and `hostBuffer`, of a cell `hostCellNumber` and `hostCellBuffer`, and of a season `hostSeasonNumber` and `hostSeasonBuffer`: the definitions that the contracts of the code cite.
 use Prim.Native.Nat.{ℕ, _^_, _<_, _≤_}
 use mathlib.Core.Path.{_≡_}
-use mathlib.Core.Bool.{Bool, true, cond}
+use mathlib.Core.Bool.{Bool, true, false, cond, not, _&&_}
 use mathlib.Core.List.{List, [], _∷_, _++_}
-use lib.Dec.{T}
-use lib.Ieee.{Float, le}
+use lib.Dec.{T, eqb, leb}
+use lib.Ieee.{Float, binary64, ofBits, le}
 use lib.ListN.{length}
 use Rattle.float64.specs.Sign.{0f}
 use Rattle.big_endian.specs.BigEndian.{byteAt, numberAt, floatAt}
@@ -16,6 +16,7 @@ use Rattle.insertion.specs.Insert.{isTorn}
 use Rattle.insertion.specs.declared.insertion.InsertAnswer.{InsertAnswer}
 use Rattle.t_mesh.specs.Tmesh.{Axis, X, Y, Z, coordinate, storeOf}
 use Rattle.t_mesh.specs.declared.t_mesh.Tmesh.{Tmesh}
+use Rattle.surface.specs.SetPoint.{onMap}
 use Rattle.census.specs.Census.{countsOf}
 use Rattle.calls.specs.FullStroke.{InUnit}
 use Rattle.soundness.specs.Theorems.{OneOf}
@@ -23,6 +24,7 @@ use Rattle.ledger.specs.Ledger.{entered, countsBy, openingsBy}
 use Rattle.ledger.specs.Theorem.{HasLedger}
 use Rattle.map_format.specs.Format.{borderAt, editsAt, fileWithdraws, editCount, Edit, editsFrom, checkedFile}
 use Rattle.map_file.specs.Run.{cornerOf, edited, afterEdits, editAnswers, fileMap, fileAnswers, fileNumbers}
+use Rattle.counted_file.specs.declared.FileCheck.{FileCheck}
 use Rattle.counted_file.specs.declared.FileCheck.the-variants.{Valid, Refused}
 use Rattle.report_text.specs.Text.{fileWord, newline, refusedText}
 use Rattle.openings.specs.Openings.{openingsOf}
@@ -64,9 +66,22 @@ EndsRefuse =
     × ((s t : ℕ) (out : List ℕ) → 32 ≤ length out → (hostNumber file s t out ≡ refusalNumber refusal) × (hostBuffer file s t out ≡ out))
 
 -- ---- the numbers
--- Whatever it is given, the C call for a set-point returns 0 or one of the refusals 3, 4, 9 and 12 to 16.
+-- Whatever it is given, the C call for a set-point returns 0 or one of the refusals 3, 4, 9, 12 to 16 and 20.
 abbrev pub NumbersNamed : Type 0
-NumbersNamed = (file : List ℕ) (s t : ℕ) (out : List ℕ) → OneOf (hostNumber file s t out) (0 ∷ (3 ∷ (4 ∷ (9 ∷ (12 ∷ (13 ∷ (14 ∷ (15 ∷ (16 ∷ [])))))))))
+NumbersNamed =
+    (file : List ℕ) (s t : ℕ) (out : List ℕ) → OneOf (hostNumber file s t out) (0 ∷ (3 ∷ (4 ∷ (9 ∷ (12 ∷ (13 ∷ (14 ∷ (15 ∷ (16 ∷ (20 ∷ []))))))))))
+
+-- whether a file is not refused
+abbrev pub isValid : FileCheck → Bool
+isValid (Valid count) = true
+isValid (Refused refusal) = false
+
+-- Whatever it is given, it returns 20 exactly where the buffer has room, the file is not refused, and s or t does not lie from 0 to 1; and the buffer is then as it was.
+abbrev pub OffMapRefused : Type 0
+OffMapRefused =
+    (file : List ℕ) (s t : ℕ) (out : List ℕ)
+    → (eqb (hostNumber file s t out) 20 ≡ (leb 32 (length out) && (isValid (checkedFile file) && not (onMap (ofBits binary64 s) (ofBits binary64 t)))))
+    × (hostNumber file s t out ≡ 20 → hostBuffer file s t out ≡ out)
 
 -- Whatever it is given, the C call for a cell returns 0 or one of the refusals 3, 4, 9, 12, 13, 14 and 16.
 abbrev pub CellNumbersNamed : Type 0
@@ -90,7 +105,7 @@ DoneInUnit axis (edit ∷ rest) [] = Unit {0}
 DoneInUnit axis (edit ∷ rest) (number ∷ numbers) = (number ≡ 0 → InUnit (coordinate axis (edit .position))) × DoneInUnit axis rest numbers
 
 -- Take any file, any s and t, any buffer and any axis. If the border weight is ≥ 0, the four corners lie in 0 to 1 on the axis, and so does the position of
--- each edit that is done, then, where the C call for a set-point answers 0, the float that it wrote for the axis lies in 0 to 1, both ends included.
+-- each edit that is done, then, where the C call for a set-point answers 0, the float that it wrote for the axis lies in 0 to 1, both ends included; and so do s and t: off the map it does not answer 0.
 abbrev pub FileNeverPastFullStroke : Type 0
 FileNeverPastFullStroke =
     (file : List ℕ) (s t : ℕ) (out : List ℕ) (axis : Axis)
@@ -98,7 +113,7 @@ FileNeverPastFullStroke =
     → ((k : ℕ) → k < 4 → InUnit (coordinate axis (cornerOf file k)))
     → DoneInUnit axis (editsFrom (editCount file) file editsAt) (fileNumbers millionth file (editCount file))
     → hostNumber file s t out ≡ 0
-    → InUnit (floatAt (hostBuffer file s t out) (placeOf axis))
+    → InUnit (ofBits binary64 s) × (InUnit (ofBits binary64 t) × InUnit (floatAt (hostBuffer file s t out) (placeOf axis)))
 
 -- ---- WHICH POINTS REACH A CELL, for files
 -- the words of a cell and their count, as they stand in a buffer

@@ -1,6 +1,7 @@
-// f64 from and to its bits, at every pattern and every value. The laws of f64 that other crates cite stand in specs/.
+// f64 from and to its bits, at every pattern and every value, and whether it lies from 0 to 1. The laws of f64 that other crates cite stand in specs/.
 ghost use mathlib.Core.Path.{_≡_};
 ghost use lib.Ieee.{binary64, ofBits, toBits};
+ghost use Rattle.float64.specs.Unit.{inUnit};
 
 // The patterns of the sign bit alone, of the infinity, and of the NaN that is written.
 const SIGN: u64 = 0x8000_0000_0000_0000;
@@ -29,4 +30,11 @@ pub fn to_bits(value: f64) -> u64
     } else {
         f64::to_bits(value)
     }
+}
+
+// Whether it lies from 0 to 1, both ends included; no NaN does.
+pub fn in_unit(value: f64) -> bool
+    ensures { λ r. ⌜ r ≡ inUnit value ⌝ }
+{
+    0.0 <= value && value <= 1.0
 }

@@ -3,11 +3,12 @@
 -- it was. In each store, also one that no call makes: a number never made is 11; where the facing side of the other point is an
 -- opening, it stores no interval and the insertion is 3; a border's weight there counts as its interval, as in the source.
 use Prim.Native.Nat.{ℕ, _+_}
-use mathlib.Core.Bool.{Bool, true, false, cond, _&&_, _||_}
+use mathlib.Core.Bool.{Bool, true, false, cond, _||_}
 use mathlib.Core.List.{[], _∷_}
 use lib.Dec.{ltb}
-use lib.Ieee.{Float, binary64, le, sub, mul}
+use lib.Ieee.{Float, binary64, sub, mul}
 use Rattle.float64.specs.Literals.{zeroLiteral, oneLiteral}
+use Rattle.float64.specs.Unit.{inUnit}
 use Rattle.control_point.specs.Direction.{clockwiseOf, antiClockwiseOf, flipOf}
 use Rattle.control_point.specs.Point.{withSide, loosePoint, sideRefusal}
 use Rattle.control_point.specs.Told.{Told, natural, refusalTold}
@@ -64,10 +65,6 @@ isRefused (Torn opened inferred) = false
 isRefused (Refused refusal) = true
 
 -- ---- the checks, in order
--- from 0 to 1: −0.0 passes, a NaN does not
-unfoldable pub inUnit : Float → Bool
-inUnit ratio = le zeroLiteral ratio && le ratio oneLiteral
-
 -- the difference of the two stored intervals not small: 6; the store full: 10. Passed, the checks give the other point and the interval
 unfoldable pub checkedIntervals : Float → ℕ → ℕ → Float → Float → Checked
 checkedIntervals e made other interval facing =
@@ -87,7 +84,7 @@ checkedSide e made (Is (Border weight)) facing = NotPassed (sideRefusal (Border 
 checkedSide e made (Is Opening) facing = NotPassed (sideRefusal Opening)
 checkedSide e made (NoSide refusal) facing = NotPassed refusal
 
--- the ratio not from 0 to 1: 1; con not listed: 2
+-- the ratio not from 0 to 1 (−0.0 is, a NaN is not): 1; con not listed: 2
 unfoldable pub checked : Float → Float → Bool → ℕ → SideAnswer → (ℕ → SideAnswer) → Checked
 checked e ratio listed made side facing =
     cond (inUnit ratio) (cond listed (checkedSide e made side facing) (NotPassed Foreign)) (NotPassed Ratio)

@@ -9,6 +9,7 @@ use lib.Dec.{eqb, ltb, lit<}
 use lib.Ieee.{Float, binary64, sub, mul}
 use lib.ListN.{length, length-set}
 use Rattle.float64.specs.Literals.{oneLiteral}
+use Rattle.float64.specs.Unit.{inUnit}
 use Rattle.control_point.specs.Connect.{connectable}
 use Rattle.control_point.specs.Direction.{clockwiseOf, antiClockwiseOf, flipOf, sameDirection}
 use Rattle.control_point.specs.DirectionLaws.{same-self}
@@ -33,7 +34,7 @@ use Rattle.store.specs.Store.{storeSides, storePoint, withSideAt, linked, done,
 use Rattle.store.specs.StoreLaws.{room-kept, sides-side, sides-new, sides-linked}
 use Rattle.store.specs.declared.store.Changed.{Changed}
 use Rattle.store.specs.declared.store.Store.{Store}
-use Rattle.insertion.specs.Insert.{inUnit, checkedIntervals, checkedFacing, checkedSide, checked, checkedLink, cut, pointInLine, parted, nearJoined, farJoined, placed, soughtSide, borderOr, newSide, withNewSide, tears, unlessTorn, openedCount, inferredCount, countedAnswer, firstSide, withFirst, secondSide, sided, passed, insertPoint}
+use Rattle.insertion.specs.Insert.{checkedIntervals, checkedFacing, checkedSide, checked, checkedLink, cut, pointInLine, parted, nearJoined, farJoined, placed, soughtSide, borderOr, newSide, withNewSide, tears, unlessTorn, openedCount, inferredCount, countedAnswer, firstSide, withFirst, secondSide, sided, passed, insertPoint}
 use Rattle.insertion.specs.declared.insertion.NewSide.{NewSide}
 use Rattle.insertion.specs.declared.insertion.NewSide.the-variants.{Takes, Joins, Opens, Tears, Stays}
 use Rattle.insertion.specs.declared.insertion.Checked.{Checked}

@@ -4,6 +4,7 @@ use Prim.Native.Nat.{ℕ, _+_}
 use mathlib.Core.Bool.{Bool, not, cond, _||_}
 use lib.Dec.{ltb}
 use lib.Ieee.{Float, binary64, sub}
+use Rattle.float64.specs.Unit.{inUnit}
 use Rattle.control_point.specs.Direction.{flipOf}
 use Rattle.control_point.specs.Point.{isMade, isBorder, isOpening}
 use Rattle.control_point.specs.Sides.{linkedOf, intervalOf}
@@ -13,7 +14,7 @@ use Rattle.control_point.specs.declared.t_mesh_control_point.Side.{Side}
 use Rattle.control_point.specs.declared.t_mesh_direction.TmeshDirection.{TmeshDirection}
 use Rattle.store.specs.Store.{storeSides}
 use Rattle.store.specs.declared.store.Store.{Store}
-use Rattle.insertion.specs.Insert.{counted, inUnit, placed, tears, openedCount, inferredCount, firstSide, secondSide}
+use Rattle.insertion.specs.Insert.{counted, placed, tears, openedCount, inferredCount, firstSide, secondSide}
 use Rattle.insertion.specs.declared.insertion.NewSide.{NewSide}
 
 -- by what both sides became

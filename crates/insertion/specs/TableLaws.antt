@@ -4,6 +4,7 @@ use mathlib.Core.Path.{_≡_, refl}
 use mathlib.Core.Bool.{Bool, true, false, not, cond, _||_}
 use lib.Dec.{ltb}
 use lib.Ieee.{Float, binary64, sub}
+use Rattle.float64.specs.Unit.{inUnit}
 use Rattle.control_point.specs.Direction.{flipOf}
 use Rattle.control_point.specs.Point.{isMade, isOpening}
 use Rattle.control_point.specs.Sides.{sideAt, linkedOf, intervalOf}
@@ -17,7 +18,7 @@ use Rattle.control_point.specs.declared.t_mesh_control_point.Side.the-variants.
 use Rattle.control_point.specs.declared.t_mesh_direction.TmeshDirection.{TmeshDirection}
 use Rattle.store.specs.Store.{storeSides}
 use Rattle.store.specs.declared.store.Store.{Store}
-use Rattle.insertion.specs.Insert.{counted, insertTold, inUnit, checkedIntervals, checkedFacing, checkedSide, checked, placed, tears, countedAnswer, firstSide, secondSide, sided, passed, insertPoint}
+use Rattle.insertion.specs.Insert.{counted, insertTold, checkedIntervals, checkedFacing, checkedSide, checked, placed, tears, countedAnswer, firstSide, secondSide, sided, passed, insertPoint}
 use Rattle.insertion.specs.Table.{placedTable, linkTable, insertionTable}
 use Rattle.insertion.specs.declared.insertion.Checked.{Checked}
 use Rattle.insertion.specs.declared.insertion.Checked.the-variants.{Passed, Refused as NotPassed}

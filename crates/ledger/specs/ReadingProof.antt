@@ -1,6 +1,7 @@
 -- The reading holds by computing: the answers from the run of the edits, the counts and the openings from the mesh that it leaves.
 use mathlib.Core.Path.{refl}
 use lib.Ieee.{ofBits, ofFields, add, sub, mul, div, sum, round, units, odd, size, span, climb, neg, le, lt, eq}
+use Rattle.float64.specs.Unit.{inUnit}
 use Rattle.counting.specs.Counting.{countBelow}
 use Rattle.control_point.specs.Connect.{connectable}
 use Rattle.control_point.specs.Point.{isMade}
@@ -9,7 +10,7 @@ use Rattle.control_point.specs.Small.{millionth, small}
 use Rattle.navigation.specs.Walk.{onward, walkOf}
 use Rattle.search.specs.Search.{judgeAt, seekFrom, findInferredConnection}
 use Rattle.store.specs.Store.{connectPoints}
-use Rattle.insertion.specs.Insert.{inUnit, checked, checkedIntervals, placed, newSide, firstSide, withFirst, secondSide, sided, insertPoint}
+use Rattle.insertion.specs.Insert.{checked, checkedIntervals, placed, newSide, firstSide, withFirst, secondSide, sided, insertPoint}
 use Rattle.t_mesh.specs.Tmesh.{newTmesh}
 use Rattle.t_mesh.specs.Insertion.{addControlPoint}
 use Rattle.t_mesh.specs.declared.t_mesh.Position.{Position}

@@ -1,4 +1,4 @@
--- THE LEDGER OF SIDES. Take any list of insertions, with evaluations, questions of cells and settings of pulls among them or none, on a fresh map of any border weight and corners,
+-- THE LEDGER OF SIDES. Take any list of insertions, with evaluations, set-points, questions of cells and settings of pulls among them or none, on a fresh map of any border weight and corners,
 -- with any closeness and any arguments, calls refused, torn or withdrawn among them. Let C be how many insertions are answered done or torn and are not withdrawn, O the
 -- sum of the sides that they opened and I the sum of the links that they inferred, as they answer. Then the map that the list leaves has
 --

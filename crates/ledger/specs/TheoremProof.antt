@@ -29,12 +29,13 @@ use Rattle.t_mesh.specs.declared.t_mesh.Position.{Position}
 use Rattle.t_mesh.specs.declared.t_mesh.Tmesh.{Tmesh}
 use Rattle.surface.specs.Evaluation.{subsOf}
 use Rattle.surface.specs.EvaluationLaws.{ready-mesh}
+use Rattle.surface.specs.SetPointLaws.{set-point-leaves}
 use Rattle.cells.specs.Cells.{cellPoints}
 use Rattle.census.specs.Census.{countsOf}
 use Rattle.census.specs.CensusLaws.{same-counts}
 use Rattle.openings.specs.Openings.{openingsOf}
 use Rattle.openings.specs.OpeningsLaws.{answer-count}
-use Rattle.calls.specs.Calls.{Call, insertion, evaluation, question, pulling, mapAfter, runOf}
+use Rattle.calls.specs.Calls.{Call, insertion, evaluation, set-point, question, pulling, mapAfter, runOf}
 use Rattle.calls.specs.PullingLaws.{pulled-case}
 use Rattle.soundness.specs.FreshLaws.{sound-fresh}
 use Rattle.soundness.specs.InsertionLaws.{Grown}
@@ -147,6 +148,8 @@ follows e (insertion withdraws con d ratio position ∷ calls) map sound =
     (follows e calls (mapAfter e map call) (sound-call map sound e (entry call)))
 follows e (evaluation s t ∷ calls) map sound =
     from-same (ready-mesh e map) (follows e calls (mapAfter e map (evaluation s t)) (sound-call map sound e (entry (evaluation s t))))
+follows e (set-point s t ∷ calls) map sound =
+    from-same (set-point-leaves e map s t (λ own. own .mesh ≡ map .mesh) refl (ready-mesh e map)) (follows e calls (mapAfter e map (set-point s t)) (sound-call map sound e (entry (set-point s t))))
 follows e (question cell ∷ calls) map sound =
     from-same (ready-mesh e map) (follows e calls (mapAfter e map (question cell)) (sound-call map sound e (entry (question cell))))
 follows e (pulling n pull ∷ calls) map sound =

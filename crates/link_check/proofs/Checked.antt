@@ -8,6 +8,7 @@ use native.Mathlib.Omega.{arith}
 use lib.Ieee.{Float}
 use types.Run.{OneOf}
 use denote.Enum.Declared.{tagOf}
+use Rattle.float64.specs.Unit.{inUnit}
 use Rattle.control_point.proofs.t_mesh_control_point.Side.{the-type}
 use Rattle.control_point.specs.Direction.{flipOf}
 use Rattle.control_point.specs.Point.{isMade, sideRefusal}
@@ -17,7 +18,7 @@ use Rattle.control_point.specs.declared.sides.SideAnswer.the-variants.{Is}
 use Rattle.control_point.specs.declared.t_mesh_control_point.Side.{Side}
 use Rattle.control_point.specs.declared.t_mesh_control_point.Side.the-variants.{Link, Border, Opening}
 use Rattle.control_point.specs.declared.t_mesh_direction.TmeshDirection.{TmeshDirection}
-use Rattle.insertion.specs.Insert.{inUnit, checkedFacing, checkedSide, checked, checkedLink}
+use Rattle.insertion.specs.Insert.{checkedFacing, checkedSide, checked, checkedLink}
 use Rattle.insertion.specs.declared.insertion.Checked.{Checked}
 use Rattle.insertion.specs.declared.insertion.Checked.the-variants.{Refused as NotPassed}
 

@@ -3,7 +3,7 @@ ghost use mathlib.Core.Path.{_≡_};
 ghost use Rattle.control_point.specs.Direction.{flipOf};
 ghost use Rattle.control_point.specs.Sides.{sideAt, lentSides};
 ghost use Rattle.control_point.specs.declared.sides.SideAnswer.the-variants.{Is};
-ghost use Rattle.insertion.specs.Insert.{inUnit, checkedIntervals, checkedFacing, checkedLink};
+ghost use Rattle.insertion.specs.Insert.{checkedIntervals, checkedFacing, checkedLink};
 use control_point::refusal::Refusal;
 use control_point::sides::side_at;
 use control_point::small::so_small;
@@ -11,14 +11,8 @@ use control_point::t_mesh_control_point::Side;
 use control_point::t_mesh_control_point::is_made;
 use control_point::t_mesh_control_point::side_refusal;
 use control_point::t_mesh_direction::TmeshDirection;
+use float64::in_unit;
 use insertion::insertion::Checked;
-
-// From 0 to 1, and no NaN.
-fn in_unit(ratio: f64) -> bool
-    ensures { λ r. ⌜ r ≡ inUnit ratio ⌝ }
-{
-    0.0 <= ratio && ratio <= 1.0
-}
 
 fn check_intervals(closeness: f64, made: u8, other: u8, interval: f64, facing: f64) -> Checked
     ensures { λ r. ⌜ r ≡ checkedIntervals closeness made other interval facing ⌝ }

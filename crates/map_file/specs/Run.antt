@@ -1,5 +1,5 @@
 -- The run of a valid file: the map of its border and corners, and its edits in order, each given the map as the last left it; a refused one is passed over, and
--- the version says whether a torn one stays or is withdrawn. e is the closeness. What is answered at (s, t) is the set-point of an evaluation of the map that the run leaves.
+-- the version says whether a torn one stays or is withdrawn. e is the closeness. What is answered at (s, t) is the set-point of the map that the run leaves.
 use Prim.Native.Nat.{ℕ, _+_, _*_}
 use mathlib.Core.Bool.{Bool}
 use mathlib.Core.List.{List, [], _∷_, map}
@@ -15,7 +15,7 @@ use Rattle.t_mesh.specs.declared.t_mesh.Position.{Position}
 use Rattle.t_mesh.specs.declared.t_mesh.Tmesh.{Tmesh}
 use Rattle.t_mesh.specs.declared.add.Added.{Added}
 use Rattle.t_mesh.specs.declared.add.InsertedMesh.{InsertedMesh}
-use Rattle.surface.specs.Evaluation.{subsOf, asSetPoint}
+use Rattle.surface.specs.SetPoint.{setPoint}
 use Rattle.surface.specs.declared.evaluation.EvaluationAnswer.{EvaluationAnswer}
 use Rattle.surface.specs.declared.evaluation.EvaluationAnswer.the-variants.{Refused as NotEvaluated}
 use Rattle.map_format.specs.Format.{borderAt, cornersAt, positionBytes, editsAt, fileWithdraws, positionAt, Edit, editsFrom, checkedFile}
@@ -66,14 +66,9 @@ fileAnswers e bytes count = editAnswers (fileWithdraws bytes) e (freshMap bytes)
 abbrev pub fileNumbers : Float → List ℕ → ℕ → List ℕ
 fileNumbers e bytes count = editNumbers (fileWithdraws bytes) e (freshMap bytes) (editsFrom count bytes editsAt)
 
--- ---- the set-point at (s, t)
--- of a map
-abbrev pub setPointAt : Float → Tmesh → Float → Float → EvaluationAnswer
-setPointAt e map s t = asSetPoint (subsOf e map s t .answer)
-
--- of a file: a refused one runs nothing
+-- ---- the set-point at (s, t): a refused file runs nothing
 abbrev pub checkedSetPoint : Float → List ℕ → Float → Float → FileCheck → EvaluationAnswer
-checkedSetPoint e bytes s t (Valid count) = setPointAt e (fileMap e bytes count) s t
+checkedSetPoint e bytes s t (Valid count) = setPoint e (fileMap e bytes count) s t .answer
 checkedSetPoint e bytes s t (Refused refusal) = NotEvaluated refusal
 
 unfoldable pub fileSetPoint : Float → List ℕ → Float → Float → EvaluationAnswer

@@ -22,10 +22,11 @@ use Rattle.t_mesh.specs.declared.add.InsertedMesh.{InsertedMesh}
 use Rattle.t_mesh.specs.declared.t_mesh.Mesh.{Mesh}
 use Rattle.t_mesh.specs.declared.t_mesh.Position.{Position}
 use Rattle.t_mesh.specs.declared.t_mesh.Tmesh.{Tmesh}
+use Rattle.surface.specs.SetPoint.{setPoint}
 use Rattle.surface.specs.declared.evaluation.EvaluationAnswer.the-variants.{Refused as NotEvaluated}
 use Rattle.map_format.specs.Format.{borderAt, editsAt, editBytes, fileWithdraws, Edit, editAt, editsFrom, checkedFile}
 use Rattle.map_format.specs.FormatLaws.{edit-after}
-use Rattle.map_file.specs.Run.{cornerOf, freshMap, SameEdits, edited, meshEdited, afterEdits, editAnswers, editNumbers, fileMap, fileNumbers, setPointAt, checkedSetPoint, fileSetPoint}
+use Rattle.map_file.specs.Run.{cornerOf, freshMap, SameEdits, edited, meshEdited, afterEdits, editAnswers, editNumbers, fileMap, fileNumbers, checkedSetPoint, fileSetPoint}
 use Rattle.counted_file.specs.declared.FileCheck.the-variants.{Valid, Refused}
 
 -- ---- the map before the edits, by the weight and the corners that were read
@@ -149,7 +150,7 @@ module _ (e : Float) (bytes : List ℕ) (count : ℕ) (notes₀ : List ℕ) wher
 
 -- ---- a file's set-point, by its check
 module _ (e : Float) (bytes : List ℕ) (s t : Float) where
-  pub set-point-valid : (count : ℕ) → checkedFile bytes ≡ Valid count → setPointAt e (fileMap e bytes count) s t ≡ fileSetPoint e bytes s t
+  pub set-point-valid : (count : ℕ) → checkedFile bytes ≡ Valid count → setPoint e (fileMap e bytes count) s t .answer ≡ fileSetPoint e bytes s t
   unfolding fileSetPoint
   set-point-valid count valid = sym (ap (checkedSetPoint e bytes s t) valid)
 

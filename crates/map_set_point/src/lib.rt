@@ -1,33 +1,27 @@
-// The set-point: of a map, and of a map file.
+// The set-point of a map file.
 ghost use mathlib.Core.Path.{_≡_};
 ghost use Rattle.control_point.specs.Small.{millionth};
-ghost use Rattle.map_file.specs.Run.{fileMap, setPointAt, fileSetPoint};
-ghost use Rattle.map_file.specs.Table.{mapSetPointTable, fileSetPointTable};
+ghost use Rattle.map_file.specs.Run.{fileMap, fileSetPoint};
+ghost use Rattle.map_file.specs.Table.{fileSetPointTable};
 ghost use Rattle.surface.specs.Evaluation.{evaluationTold};
+ghost use Rattle.surface.specs.SetPoint.{setPoint};
+use control_point::refusal::Refusal;
 use control_point::small::closeness;
 use counted_file::FileCheck;
-use evaluation::evaluation::as_set_point;
-use evaluation::evaluation::subs;
 use lent_evaluation::lent_answer;
 use map_format::format::validate;
 use map_run::run_lent;
+use set_point_check::on_map;
+use set_point_check::weighed;
 use surface::evaluation::EvaluationAnswer;
-use t_mesh::t_mesh::Tmesh;
 
-// The set-point of a map at (s, t).
-pub fn set_point_at(map: Tmesh, s: f64, t: f64) -> EvaluationAnswer
-    ensures is { λ r. ⌜ r ≡ setPointAt millionth map s t ⌝ }
-    ensures told { λ r. ⌜ evaluationTold r ≡ mapSetPointTable millionth map s t ⌝ }
-{
-    let evaluated = subs(map, s, t);
-    let answer = evaluated.answer;
-    as_set_point(answer)
-}
-
-// After so many edits, with no room for notes. The mesh stays lent from its corners to the answer: no map stands by value.
+// After so many edits, with no room for notes; off the map nothing is run. The mesh stays lent from its corners to the answer: no map stands by value.
 fn edited_set_point(file: &[u8], count: usize, s: f64, t: f64) -> EvaluationAnswer
-    ensures { λ r. ⌜ r ≡ setPointAt millionth (fileMap millionth (now (file .entry)) count) s t ⌝ }
+    ensures { λ r. ⌜ r ≡ setPoint millionth (fileMap millionth (now (file .entry)) count) s t .answer ⌝ }
 {
+    if !on_map(s, t) {
+        return EvaluationAnswer::Refused(Refusal::OffMap);
+    }
     let mut kinds = [0u8; 512];
     let mut numbers = [0u8; 512];
     let mut intervals = [0.0; 512];
@@ -49,7 +43,7 @@ fn edited_set_point(file: &[u8], count: usize, s: f64, t: f64) -> EvaluationAnsw
         &mut positions,
         &mut listed,
     );
-    as_set_point(lent_answer(
+    weighed(lent_answer(
         closeness(),
         &kinds,
         &numbers,

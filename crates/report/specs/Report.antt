@@ -9,10 +9,11 @@ use Rattle.control_point.specs.declared.refusal.Refusal.{Refusal}
 use Rattle.t_mesh.specs.Tmesh.{storeOf}
 use Rattle.t_mesh.specs.declared.t_mesh.Tmesh.{Tmesh}
 use Rattle.census.specs.Census.{countsOf}
+use Rattle.surface.specs.SetPoint.{setPoint}
 use Rattle.map_format.specs.Format.{checkedFile}
 use Rattle.counted_file.specs.declared.FileCheck.{FileCheck}
 use Rattle.counted_file.specs.declared.FileCheck.the-variants.{Valid, Refused}
-use Rattle.map_file.specs.Run.{fileMap, fileNumbers, setPointAt}
+use Rattle.map_file.specs.Run.{fileMap, fileNumbers}
 use Rattle.openings.specs.Openings.{openingsOf}
 use Rattle.report_text.specs.Text.{fileWord, newline, refusedText}
 use Rattle.report_lines.specs.Lines.{editLines, countsLine, openLines, midLine}
@@ -22,7 +23,7 @@ abbrev pub half : Float
 half = ofBits binary64 0x3fe0_0000_0000_0000
 
 abbrev pub mapReport : Tmesh → List ℕ
-mapReport map = countsLine (countsOf map) ++ (openLines (openingsOf (storeOf map)) ++ midLine (setPointAt millionth map half half))
+mapReport map = countsLine (countsOf map) ++ (openLines (openingsOf (storeOf map)) ++ midLine (setPoint millionth map half half .answer))
 
 -- of a file with so many edits
 abbrev pub validReport : List ℕ → ℕ → List ℕ

@@ -11,7 +11,8 @@ use Rattle.t_mesh.specs.declared.t_mesh.Tmesh.{Tmesh}
 use Rattle.census.specs.Census.{countsOf}
 use Rattle.map_format.specs.Format.{checkedFile}
 use Rattle.map_format.specs.FormatLaws.{valid-tells}
-use Rattle.map_file.specs.Run.{fileMap, fileNumbers, setPointAt}
+use Rattle.surface.specs.SetPoint.{setPoint}
+use Rattle.map_file.specs.Run.{fileMap, fileNumbers}
 use Rattle.counted_file.specs.declared.FileCheck.{FileCheck}
 use Rattle.counted_file.specs.declared.FileCheck.the-variants.{Valid, Refused}
 use Rattle.openings.specs.Openings.{openingsOf}
@@ -27,8 +28,8 @@ map-report-few : (map : Tmesh) → length (mapReport map) ≤ 7785
 map-report-few map =
     let counts = countsLine (countsOf map) in
     let openings = openLines (openingsOf (storeOf map)) in
-    let mid = midLine (setPointAt millionth map half half) in
-    omega (arith, length-append counts (openings ++ mid), length-append openings mid, counts-line-few (countsOf map), open-lines-few (openingsOf (storeOf map)), few-openings (storeOf map), mid-line-few (setPointAt millionth map half half))
+    let mid = midLine (setPoint millionth map half half .answer) in
+    omega (arith, length-append counts (openings ++ mid), length-append openings mid, counts-line-few (countsOf map), open-lines-few (openingsOf (storeOf map)), few-openings (storeOf map), mid-line-few (setPoint millionth map half half .answer))
 
 checked-fits : (file : List ℕ) (check : FileCheck) → checkedFile file ≡ check → length (checkedReport file check) ≤ mostBytes
 checked-fits file (Refused refusal) so = omega (arith, length-append (refusedText (refusalNumber refusal)) newline, refused-few (refusalNumber refusal))

@@ -12,13 +12,13 @@ use counted_file::FileCheck;
 use map_format::format::MOST_EDITS;
 use map_format::format::validate;
 use map_run::run_edits;
-use map_set_point::set_point_at;
 use report_lines::lines::put_counts_line;
 use report_lines::lines::put_edit_lines;
 use report_lines::lines::put_mid_line;
 use report_lines::lines::put_open_lines;
 use report_text::text::put_refused;
 use report_text::text::put_text;
+use set_point::set_point;
 use t_mesh::t_mesh::Tmesh;
 use t_mesh::t_mesh::store_of;
 
@@ -29,7 +29,9 @@ fn put_map_report(out: &mut [u8], at: usize, map: Tmesh) -> usize
 {
     let counted = put_counts_line(out, at, counts(map));
     let opened = put_open_lines(out, counted, store_of(map.mesh));
-    put_mid_line(out, opened, set_point_at(map, 0.5, 0.5))
+    let set = set_point(map, 0.5, 0.5);
+    let mid = set.answer;
+    put_mid_line(out, opened, mid)
 }
 
 // What is printed of a valid file, by its count of edits.

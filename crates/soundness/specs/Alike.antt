@@ -10,9 +10,10 @@ use lib.Ieee.{Float}
 use Rattle.float64.specs.Literals.{zeroLiteral}
 use Rattle.control_point.specs.Told.{Told}
 use Rattle.control_point.specs.declared.refusal.Outcome.the-variants.{Done}
-use Rattle.calls.specs.Calls.{Call, insertion, evaluation, question, pulling, Answer, inserted, evaluated, questioned, pulled, answerTo}
+use Rattle.calls.specs.Calls.{Call, insertion, evaluation, set-point, question, pulling, Answer, inserted, evaluated, questioned, pulled, answerTo}
 use Rattle.cells.specs.Cells.{cellPoints}
-use Rattle.surface.specs.Evaluation.{evaluationNumber, knotsOf, weightOf, totalWeight, withKnots, subsOf, asSetPoint}
+use Rattle.surface.specs.Evaluation.{evaluationNumber, knotsOf, weightOf, totalWeight, withKnots}
+use Rattle.surface.specs.SetPoint.{setPoint}
 use Rattle.surface.specs.declared.evaluation.EvaluationAnswer.{EvaluationAnswer}
 use Rattle.surface.specs.declared.evaluation.EvaluationAnswer.the-variants.{Is, Refused}
 use Rattle.t_mesh.specs.Tmesh.{storeOf, isListed, origin, newTmesh}
@@ -37,6 +38,7 @@ pub record Alike (one other : Tmesh) : Type 0 where
 abbrev pub withoutPosition : Call → Call
 withoutPosition (insertion withdraws con d ratio position) = insertion withdraws con d ratio origin
 withoutPosition (evaluation s t) = evaluation s t
+withoutPosition (set-point s t) = set-point s t
 withoutPosition (question cell) = question cell
 withoutPosition (pulling n pull) = pulling n pull
 
@@ -47,7 +49,7 @@ callWithout (point-knot-vectors n) = point-knot-vectors n
 callWithout (cast-ray n d buffer) = cast-ray n d buffer
 callWithout (direct call) = direct call
 
--- an answer with the weight alone of an evaluation's value
+-- an answer with the weight alone of an evaluation's or a set-point's value
 abbrev pub valueWithout : EvaluationAnswer → EvaluationAnswer
 valueWithout (Is value) = Is (record { x = zeroLiteral; y = zeroLiteral; z = zeroLiteral; weight = value .weight })
 valueWithout (Refused refusal) = Refused refusal
@@ -81,7 +83,7 @@ pub record Same (one other : Tmesh) : Type 0 where
       → weightOf (withKnots e one .map) s t n ≡ weightOf (withKnots e other .map) s t n
   pub totals : (e : Float) → withKnots e one .outcome ≡ Done → (s t : Float) → totalWeight (withKnots e one .map) s t ≡ totalWeight (withKnots e other .map) s t
   -- a set-point is refused alike, and a cell answered alike
-  pub set-points : (e s t : Float) → evaluationNumber (asSetPoint (subsOf e one s t .answer)) ≡ evaluationNumber (asSetPoint (subsOf e other s t .answer))
+  pub set-points : (e s t : Float) → evaluationNumber (setPoint e one s t .answer) ≡ evaluationNumber (setPoint e other s t .answer)
   pub cells : (e : Float) (cell : ℕ) → cellPoints e one cell .answer ≡ cellPoints e other cell .answer
   -- any call on both, its positions apart
   pub answers : (e : Float) (call also : MapCall) → callWithout call ≡ callWithout also → toldWithout e one call ≡ toldWithout e other also

@@ -2,12 +2,12 @@
 -- the others makes no difference; and the index is that of the listing and the listed rows (KeptLaws), so it is the same where these are.
 use Prim.Native.Nat.{ℕ, zero, suc, _+_, _<_}
 use mathlib.Core.Path.{_≡_, refl, sym, ap, ap₂, _∙_, subst}
-use mathlib.Core.Bool.{Bool, true, false, cond, false≢true}
+use mathlib.Core.Bool.{Bool, true, false, cond, _&&_, false≢true}
 use mathlib.Core.List.{List, [], _∷_, map}
 use native.Mathlib.Omega.{arith}
 use borrow.Author.Tests.{eqb-true, eqb-false}
 use lib.Dec.{eqb}
-use lib.Ieee.{Float, nan}
+use lib.Ieee.{Float, nan, inf, lt}
 use lib.ListN.{length, getD, set, length-set}
 use lib.Seq.{getD-set-same, getD-set-other}
 use Rattle.float64.specs.Literals.{zeroLiteral, oneLiteral}
@@ -40,12 +40,15 @@ use Rattle.knot_vectors.specs.Knots.{AllKnots, all, none, onAll, inRow, withRow
 use Rattle.knot_vectors.specs.declared.knots.Generated.{Generated}
 use Rattle.pull.specs.Pull.{repulled, withPull, pullOutcome, pulledBy, setPull}
 use Rattle.pull.specs.declared.Pulled.{Pulled}
-use Rattle.surface.specs.Evaluation.{evaluationTold, evaluationNumber, knotsOf, weightBy, weightOf, totalWeight, valueOf, answerBy, withKnots, subsOf, weighty, setPoint, asSetPoint}
+use Rattle.surface.specs.Evaluation.{evaluationTold, evaluationNumber, knotsOf, weightBy, weightOf, totalWeight, valueOf, answerBy, withKnots, subsOf}
+use Rattle.surface.specs.SetPoint.{weighty, whereWeighty, weighed, setPoint}
+use Rattle.surface.specs.SetPointLaws.{both-set-points}
 use Rattle.surface.specs.EvaluationLaws.{ready-mesh, total-alike as totals-agree}
 use Rattle.surface.specs.declared.evaluation.Evaluation.{Evaluation}
+use Rattle.surface.specs.declared.evaluation.EvaluationAnswer.{EvaluationAnswer}
 use Rattle.surface.specs.declared.evaluation.EvaluationAnswer.the-variants.{Is, Refused}
 use Rattle.cells.specs.Cells.{cellTold, cellAnswerBy, cellPoints}
-use Rattle.calls.specs.Calls.{insertion, evaluation, question, pulling}
+use Rattle.calls.specs.Calls.{insertion, evaluation, set-point, question, pulling}
 use Rattle.soundness.specs.Alike.{pullsOf, Alike, callWithout, valueWithout, toldWithout, allToldWithout, Same, AlikeMaps, AlikeLists}
 use Rattle.soundness.specs.InsertionLaws.{Grown}
 use Rattle.soundness.specs.KeptLaws.{SoundMap, ready, map-call, map-fresh, every-map-sound}
@@ -97,7 +100,7 @@ pulls-too : (one other : Tmesh) → Alike one other → (n : ℕ) → pullOf one
 pulls-too one other alike n =
     sym (pull-at (one .mesh .places) n) ∙ ap (λ (pulls : List Float). getD pulls n nan) (alike .pulls) ∙ pull-at (other .mesh .places) n
 
--- ---- what is told of an evaluation and of a question, by the outcome of the building
+-- ---- what is told of an evaluation, a set-point and a question, by the outcome of the building
 value-told : (outcome : Outcome) (value also : Evaluation) → (outcome ≡ Done → value .weight ≡ also .weight)
     → valueWithout (answerBy outcome value) ≡ valueWithout (answerBy outcome also)
 value-told Done value also same =
@@ -105,17 +108,21 @@ value-told Done value also same =
 value-told (NotBuilt refusal) value also same = refl
 
 -- a set-point is refused by the weight alone
-set-point-number : (b : Bool) (value also : Evaluation) → evaluationNumber (cond b (Is value) (Refused NoWeight)) ≡ evaluationNumber (cond b (Is also) (Refused NoWeight))
-set-point-number true value also = refl
-set-point-number false value also = refl
+weighed-told : (outcome : Outcome) (value also : Evaluation) → (outcome ≡ Done → value .weight ≡ also .weight)
+    → valueWithout (weighed (answerBy outcome value)) ≡ valueWithout (weighed (answerBy outcome also))
+unfolding whereWeighty
+weighed-told Done value also same =
+    ap (λ (weight : Float). valueWithout (cond (lt zeroLiteral weight && lt weight (inf false)) (Is value) (Refused NoWeight))) (same refl)
+    ∙ by-weight (weighty also)
+  where
+    by-weight : (b : Bool) → valueWithout (cond b (Is value) (Refused NoWeight)) ≡ valueWithout (cond b (Is also) (Refused NoWeight))
+    by-weight true = value-told Done value also same
+    by-weight false = refl
+weighed-told (NotBuilt refusal) value also same = refl
 
-number-told : (outcome : Outcome) (value also : Evaluation) → (outcome ≡ Done → value .weight ≡ also .weight)
-    → evaluationNumber (asSetPoint (answerBy outcome value)) ≡ evaluationNumber (asSetPoint (answerBy outcome also))
-unfolding setPoint
-number-told Done value also same =
-    ap (λ (weight : Float). evaluationNumber (setPoint (record { x = value .x; y = value .y; z = value .z; weight = weight }))) (same refl)
-    ∙ set-point-number (weighty also) _ also
-number-told (NotBuilt refusal) value also same = refl
+number-without : (answer : EvaluationAnswer) → evaluationNumber (valueWithout answer) ≡ evaluationNumber answer
+number-without (Is value) = refl
+number-without (Refused refusal) = refl
 
 words-same : (outcome : Outcome) (words also : Cell) → (outcome ≡ Done → words ≡ also) → cellAnswerBy outcome words ≡ cellAnswerBy outcome also
 words-same Done words also same = ap (cellAnswerBy Done) (same refl)
@@ -269,7 +276,7 @@ module _ (one other : Tmesh) (sound : SoundMap one) (sound′ : SoundMap other) 
         total-alike =
             totals-agree own own′ (λ n _. listed-too own own′ (ready-alike .1) n) (weightOf own s t) (weightOf own′ s t) (λ n _ listed. weight-alike n listed)
 
-    -- ---- the answers of an evaluation and of a question
+    -- ---- the answers of an evaluation, a set-point and a question
     weighs : (s t : Float) → withKnots e one .outcome ≡ Done → valueOf own s t .weight ≡ valueOf own′ s t .weight
     unfolding valueOf
     weighs s t done = total-alike done s t
@@ -280,11 +287,13 @@ module _ (one other : Tmesh) (sound : SoundMap one) (sound′ : SoundMap other) 
         value-told (withKnots e one .outcome) (valueOf own s t) (valueOf own′ s t) (weighs s t)
         ∙ ap (λ (outcome : Outcome). valueWithout (answerBy outcome (valueOf own′ s t))) (ready-alike .0)
 
-    set-point-alike : (s t : Float) → evaluationNumber (asSetPoint (subsOf e one s t .answer)) ≡ evaluationNumber (asSetPoint (subsOf e other s t .answer))
+    set-point-alike : (s t : Float) → valueWithout (setPoint e one s t .answer) ≡ valueWithout (setPoint e other s t .answer)
     unfolding subsOf
     set-point-alike s t =
-        number-told (withKnots e one .outcome) (valueOf own s t) (valueOf own′ s t) (weighs s t)
-        ∙ ap (λ (outcome : Outcome). evaluationNumber (asSetPoint (answerBy outcome (valueOf own′ s t)))) (ready-alike .0)
+        both-set-points e one other s t (λ given given′. valueWithout (given .answer) ≡ valueWithout (given′ .answer))
+        (weighed-told (withKnots e one .outcome) (valueOf own s t) (valueOf own′ s t) (weighs s t)
+        ∙ ap (λ (outcome : Outcome). valueWithout (weighed (answerBy outcome (valueOf own′ s t)))) (ready-alike .0))
+        refl
 
     cell-alike : (cell : ℕ) → cellPoints e one cell .answer ≡ cellPoints e other cell .answer
     unfolding cellPoints
@@ -367,6 +376,7 @@ module _ (one other : Tmesh) (sound : SoundMap one) (sound′ : SoundMap other) 
     unfolding addControlPoint
     told-alike (entry (insertion withdraws con d ratio position)) = ap (λ (result : Inserted). insertTold (result .answer)) (inserted-too con d ratio)
     told-alike (entry (evaluation s t)) = ap evaluationTold (evaluated-alike s t)
+    told-alike (entry (set-point s t)) = ap evaluationTold (set-point-alike s t)
     told-alike (entry (question cell)) = ap cellTold (cell-alike cell)
     told-alike (entry (pulling n pull)) = ap outcomeTold (pulled-alike n pull .0)
     told-alike generate-knot-vectors = ap outcomeTold (generated-alike .0)
@@ -378,6 +388,7 @@ module _ (one other : Tmesh) (sound : SoundMap one) (sound′ : SoundMap other) 
     unfolding subsOf cellPoints
     after-alike (entry (insertion withdraws con d ratio position)) = inserted-alike con d ratio withdraws position _
     after-alike (entry (evaluation s t)) = ready-alike .1
+    after-alike (entry (set-point s t)) = both-set-points e one other s t (λ given given′. Alike (given .map) (given′ .map)) (ready-alike .1) alike
     after-alike (entry (question cell)) = ready-alike .1
     after-alike (entry (pulling n pull)) = pulled-alike n pull .1
     after-alike generate-knot-vectors = generated-alike .1
@@ -421,7 +432,10 @@ same one other sound sound′ alike =
           weight-alike one other sound sound′ alike e done s t n
           (ap (λ (mesh : Mesh). getD (mesh .listed) n false) (ready-mesh e one) ∙ listed);
       totals = λ e done s t. total-alike one other sound sound′ alike e done s t;
-      set-points = λ e s t. set-point-alike one other sound sound′ alike e s t;
+      set-points = λ e s t.
+          sym (number-without (setPoint e one s t .answer))
+          ∙ ap evaluationNumber (set-point-alike one other sound sound′ alike e s t)
+          ∙ number-without (setPoint e other s t .answer);
       cells = λ e cell. cell-alike one other sound sound′ alike e cell;
       answers = λ e call also h.
           told-alike one other sound sound′ alike e call

@@ -1,24 +1,27 @@
 -- Every list leaves a sound mesh, because a fresh one is sound and each call keeps it so; the theorems are what a sound mesh says of a call.
 use Prim.Native.Nat.{ℕ}
-use mathlib.Core.Path.{_≡_, sym, subst}
-use mathlib.Core.Bool.{true, false, _||_, true≢false}
+use mathlib.Core.Path.{_≡_, refl, sym, ap, _∙_, subst}
+use mathlib.Core.Bool.{Bool, true, false, not, _||_, true≢false}
 use mathlib.Core.Logic.{inl, inr}
 use mathlib.Core.List.{List, [], _∷_}
 use lib.Dec.{T, eqb, eqb→eq}
 use lib.Ieee.{Float}
 use Rattle.control_point.specs.Refusal.{refusalNumber}
 use Rattle.control_point.specs.declared.refusal.Refusal.{Refusal}
-use Rattle.surface.specs.Evaluation.{subsOf}
-use Rattle.surface.specs.declared.evaluation.EvaluationAnswer.the-variants.{Refused as NoValue}
+use Rattle.surface.specs.Evaluation.{evaluationNumber, subsOf}
+use Rattle.surface.specs.SetPoint.{onMap, weighty, whereWeighty, weighed, setPoint}
+use Rattle.surface.specs.SetPointLaws.{set-point-case}
+use Rattle.surface.specs.declared.evaluation.EvaluationAnswer.{EvaluationAnswer}
+use Rattle.surface.specs.declared.evaluation.EvaluationAnswer.the-variants.{Is, Refused as NoValue}
 use Rattle.cells.specs.Cells.{cellPoints}
 use Rattle.cells.specs.declared.CellAnswer.the-variants.{Refused as NoWords}
-use Rattle.counting.specs.BoolLaws.{or-case}
+use Rattle.counting.specs.BoolLaws.{cond-case, or-case}
 use Rattle.t_mesh.specs.Tmesh.{newTmesh}
 use Rattle.t_mesh.specs.declared.t_mesh.Tmesh.{Tmesh}
 use Rattle.soundness.specs.MapCalls.{MapCall, afterCall, mapAfterAll}
 use Rattle.soundness.specs.FreshLaws.{sound-fresh}
 use Rattle.soundness.specs.MapLaws.{SoundMesh, KnownEvaluation, KnownQuestion, insertion-places, evaluation-known, question-known, sound-call, listing-call}
-use Rattle.soundness.specs.Theorems.{EveryMap, OneOf, EveryMapMirrored, ListedIsMade, ListingGrows, PlacingConnects, EvaluationRefusals, QuestionRefusals}
+use Rattle.soundness.specs.Theorems.{EveryMap, OneOf, EveryMapMirrored, ListedIsMade, ListingGrows, PlacingConnects, EvaluationRefusals, SetPointNumbers, QuestionRefusals}
 
 sound-list : (e : Float) (calls : List MapCall) (map : Tmesh) → SoundMesh (map .mesh) → SoundMesh (mapAfterAll e map calls .mesh)
 unfolding mapAfterAll
@@ -60,6 +63,31 @@ evaluation-refused map sound e s t refusal is = of-three (refusalNumber refusal)
 
 pub evaluation-refusals : EvaluationRefusals
 evaluation-refusals = of-sound _ evaluation-refused
+
+-- ---- a set-point
+-- its number is one of six, and 20 or not
+abbrev Numbered : Bool → EvaluationAnswer → Type 0
+Numbered off answer = OneOf (evaluationNumber answer) (0 ∷ (3 ∷ (4 ∷ (9 ∷ (15 ∷ (20 ∷ [])))))) × (eqb (evaluationNumber answer) 20 ≡ off)
+
+-- an evaluation's refusal, by one of its numbers
+of-evaluation : (refusal : Refusal) → OneOf (refusalNumber refusal) (3 ∷ (4 ∷ (9 ∷ []))) → Numbered false (NoValue refusal)
+of-evaluation refusal (inl same) = (inr (inl same), ap (λ (m : ℕ). eqb m 20) same)
+of-evaluation refusal (inr (inl same)) = (inr (inr (inl same)), ap (λ (m : ℕ). eqb m 20) same)
+of-evaluation refusal (inr (inr (inl same))) = (inr (inr (inr (inl same))), ap (λ (m : ℕ). eqb m 20) same)
+
+weighed-numbered : (answer : EvaluationAnswer) → KnownEvaluation answer → Numbered false (weighed answer)
+unfolding whereWeighty
+weighed-numbered (Is value) known = cond-case (weighty value) (Numbered false) _ _ (λ _. (inl refl, refl)) (λ _. (inr (inr (inr (inr (inl refl)))), refl))
+weighed-numbered (NoValue refusal) known = of-evaluation refusal (of-three (refusalNumber refusal) known)
+
+set-point-numbered : (map : Tmesh) → SoundMesh (map .mesh) → (e s t : Float) → Numbered (not (onMap s t)) (setPoint e map s t .answer)
+set-point-numbered map sound e s t =
+    set-point-case e map s t (λ given. Numbered (not (onMap s t)) (given .answer))
+    (λ on. let numbered = weighed-numbered (subsOf e map s t .answer) (evaluation-known map sound e s t) in (numbered .0, numbered .1 ∙ sym (ap not on)))
+    (λ off. (inr (inr (inr (inr (inr (inl refl))))), sym (ap not off)))
+
+pub set-point-numbers : SetPointNumbers
+set-point-numbers = of-sound _ set-point-numbered
 
 question-refused : (map : Tmesh) → SoundMesh (map .mesh) → (e : Float) (cell : ℕ) (refusal : Refusal) → cellPoints e map cell .answer ≡ NoWords refusal
     → OneOf (refusalNumber refusal) (3 ∷ (4 ∷ (9 ∷ [])))

@@ -7,6 +7,7 @@ use native.Mathlib.Omega.{arith}
 use borrow.Author.Tests.{ltb-true}
 use lib.Dec.{ltb}
 use lib.Ieee.{Float, binary64, sub}
+use Rattle.float64.specs.Unit.{inUnit}
 use Rattle.control_point.specs.Direction.{clockwiseOf, antiClockwiseOf, flipOf, sameDirection}
 use Rattle.control_point.specs.Point.{isLink}
 use Rattle.control_point.specs.PointLaws.{made-isMade}
@@ -23,7 +24,7 @@ use Rattle.store.specs.Store.{storeSides, readSide}
 use Rattle.store.specs.declared.store.Store.{Store}
 use Rattle.counting.specs.BoolLaws.{both-ways, cond-case}
 use Rattle.mirror.specs.Mirror.{MirrorOf, Sound}
-use Rattle.insertion.specs.Insert.{isRefused, inUnit, checkedIntervals, checkedFacing, checkedSide, checked, placed, sought, tears, countedAnswer, firstSide, withFirst, secondSide, sided, passed, insertPoint}
+use Rattle.insertion.specs.Insert.{isRefused, checkedIntervals, checkedFacing, checkedSide, checked, placed, sought, tears, countedAnswer, firstSide, withFirst, secondSide, sided, passed, insertPoint}
 use Rattle.insertion.specs.InsertLaws.{MayJoin, first-joins, second-joins}
 use Rattle.insertion.specs.declared.insertion.Checked.{Checked}
 use Rattle.insertion.specs.declared.insertion.InsertAnswer.{InsertAnswer}

@@ -29,12 +29,13 @@ use Rattle.store.specs.Store.{storeSides}
 use Rattle.store.specs.TablesLaws.{refused-not}
 use Rattle.store.specs.declared.store.Store.{Store}
 use Rattle.surface.specs.Evaluation.{withKnots, subsOf}
+use Rattle.surface.specs.SetPointLaws.{set-point-leaves}
 use Rattle.cells.specs.Cells.{cellPoints}
 use Rattle.t_mesh.specs.Insertion.{afterInsertion, addControlPoint}
 use Rattle.t_mesh.specs.Tmesh.{storeOf, isListed, blankKnots, newTmesh}
 use Rattle.t_mesh.specs.declared.t_mesh.Position.{Position}
 use Rattle.t_mesh.specs.declared.t_mesh.Tmesh.{Tmesh}
-use Rattle.calls.specs.Calls.{insertion, evaluation, question, pulling}
+use Rattle.calls.specs.Calls.{insertion, evaluation, set-point, question, pulling}
 use Rattle.calls.specs.ListLaws.{set-case, replicate-case}
 use Rattle.calls.specs.PullingLaws.{pulled-case}
 use Rattle.calls.specs.RowsLaws.{OfRows, all-rows}
@@ -142,6 +143,7 @@ module _ (map : Tmesh) (sound : SoundMap map) where
   map-call e (entry (insertion withdraws con d ratio position)) =
       by-either-rule SoundMap withdraws e map con d ratio position sound (inserted-map e con d ratio position)
   map-call e (entry (evaluation s t)) = ready e .0
+  map-call e (entry (set-point s t)) = set-point-leaves e map s t SoundMap sound (ready e .0)
   map-call e (entry (question cell)) = ready e .0
   map-call e (entry (pulling n pull)) =
       pulled-case map n pull SoundMap sound (λ _ _. record { mesh = repulled-sound map (sound .mesh) n pull; rows = sound .rows; index = sound .index })

@@ -31,8 +31,9 @@ use Rattle.t_mesh.specs.declared.t_mesh.Tmesh.{Tmesh}
 use Rattle.knot_vectors.specs.Knots.{AllKnots, all, none, keeping, allKnots, generateKnotVectors}
 use Rattle.knot_vectors.specs.declared.knots.Generated.{Generated}
 use Rattle.surface.specs.Evaluation.{withKnots, subsOf}
+use Rattle.surface.specs.SetPointLaws.{set-point-leaves}
 use Rattle.cells.specs.Cells.{cellPoints}
-use Rattle.calls.specs.Calls.{Call, insertion, evaluation, question, pulling, mapAfter}
+use Rattle.calls.specs.Calls.{Call, insertion, evaluation, set-point, question, pulling, mapAfter}
 use Rattle.calls.specs.Good.{NotNegative, GoodStore, GoodEntries, GoodRay}
 use Rattle.calls.specs.GoodLaws.{store-sides, point-inserted}
 use Rattle.calls.specs.GoodKnotsLaws.{ray-entries}
@@ -147,6 +148,7 @@ unfolding subsOf cellPoints
 good-call e map good (insertion withdraws con d ratio position) =
     by-either-rule (λ after. GoodStore (storeOf after)) withdraws e map con d ratio position good (good-inserted e map good con d ratio position)
 good-call e map good (evaluation s t) = good-ready e map good
+good-call e map good (set-point s t) = set-point-leaves e map s t (λ after. GoodStore (storeOf after)) good (good-ready e map good)
 good-call e map good (question cell) = good-ready e map good
 good-call e map good (pulling n pull) = pulled-case map n pull (λ after. GoodStore (storeOf after)) good (λ _ _. good)
 

@@ -1,4 +1,4 @@
--- A list of calls on one map: insertions by either rule on torn ones, evaluations, questions of cells and settings of pulls, buildings of the knots, the calls on its store that only look at
+-- A list of calls on one map: insertions by either rule on torn ones, evaluations, set-points, questions of cells and settings of pulls, buildings of the knots, the calls on its store that only look at
 -- it (the knots of one point, a ray), and the direct calls on that store, a point made alone among them; in any order, with any arguments, whatever they answer. A
 -- direct call leaves the listing, the places, the kept knots and their index as they are. Lending a map is none of them: it leaves the map that an
 -- evaluation leaves (the theorem `LendingIsSubs` of lent_surface).
@@ -19,9 +19,9 @@ use Rattle.t_mesh.specs.declared.t_mesh.Tmesh.{Tmesh}
 use Rattle.knot_vectors.specs.Knots.{generateKnotVectors}
 use Rattle.cells.specs.Cells.{cellTold}
 use Rattle.surface.specs.Evaluation.{evaluationTold}
-use Rattle.calls.specs.Calls.{Call, insertion, evaluation, question, pulling, Answer, inserted, evaluated, questioned, pulled, callWithdraws, answerTo, mapAfter}
+use Rattle.calls.specs.Calls.{Call, insertion, evaluation, set-point, question, pulling, Answer, inserted, evaluated, questioned, pulled, callWithdraws, answerTo, mapAfter}
 
--- an insertion, an evaluation, a question or the setting of a pull; the building of all knots; the knots of a point; a ray from a point into a buffer; a direct call
+-- an insertion, an evaluation, a set-point, a question or the setting of a pull; the building of all knots; the knots of a point; a ray from a point into a buffer; a direct call
 pub data MapCall : Type 0 where
   entry : Call → MapCall
   generate-knot-vectors : MapCall
@@ -50,7 +50,7 @@ unfoldable pub mapAfterAll : Float → Tmesh → List MapCall → Tmesh
 mapAfterAll e map [] = map
 mapAfterAll e map (call ∷ rest) = mapAfterAll e (afterCall e map call) rest
 
--- a list of insertions, evaluations, questions and settings of pulls alone, and one of direct calls alone
+-- a list of insertions, evaluations, set-points, questions and settings of pulls alone, and one of direct calls alone
 unfoldable pub entries : List Call → List MapCall
 entries [] = []
 entries (call ∷ rest) = entry call ∷ entries rest
@@ -93,6 +93,21 @@ addsPoint e map (point-knot-vectors n) = false
 addsPoint e map (cast-ray n d buffer) = false
 addsPoint e map (direct call) = false
 
+-- whether a call is a set-point
+abbrev pub isSetPoint : Call → Bool
+isSetPoint (insertion withdraws con d ratio position) = false
+isSetPoint (evaluation s t) = false
+isSetPoint (set-point s t) = true
+isSetPoint (question cell) = false
+isSetPoint (pulling n pull) = false
+
+abbrev pub asksSetPoint : MapCall → Bool
+asksSetPoint (entry call) = isSetPoint call
+asksSetPoint generate-knot-vectors = false
+asksSetPoint (point-knot-vectors n) = false
+asksSetPoint (cast-ray n d buffer) = false
+asksSetPoint (direct call) = false
+
 -- ---- the points that a call is given
 -- whether every point that a direct call is given was made
 abbrev pub givenMade : Store → Direct → Bool
@@ -110,6 +125,7 @@ givenMade store (read-point n) = isMade (store .made) n
 abbrev pub entryMade : Store → Call → Bool
 entryMade store (insertion withdraws con d ratio position) = true
 entryMade store (evaluation s t) = true
+entryMade store (set-point s t) = true
 entryMade store (question cell) = true
 entryMade store (pulling n pull) = isMade (store .made) n
 

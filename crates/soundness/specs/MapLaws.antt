@@ -31,6 +31,7 @@ use Rattle.t_mesh.specs.declared.t_mesh.Tmesh.{Tmesh}
 use Rattle.pull.specs.Pull.{withPull}
 use Rattle.surface.specs.Evaluation.{valueOf, answerBy, withKnots, subsOf}
 use Rattle.surface.specs.EvaluationLaws.{generated-mesh, ready-mesh}
+use Rattle.surface.specs.SetPointLaws.{set-point-leaves}
 use Rattle.knot_vectors.specs.Knots.{AllKnots, all, none, onAll, inRow, withRow, rowsFrom, allKnots, keeping, generateKnotVectors}
 use Rattle.surface.specs.declared.evaluation.Evaluation.{Evaluation}
 use Rattle.surface.specs.declared.evaluation.EvaluationAnswer.{EvaluationAnswer}
@@ -41,7 +42,7 @@ use Rattle.cells.specs.declared.CellAnswer.{CellAnswer}
 use Rattle.cells.specs.declared.CellAnswer.the-variants.{Is as Words, Refused as NoWords}
 use Rattle.grid_index.specs.Index.{cellOf}
 use Rattle.grid_index.specs.declared.Cell.{Cell}
-use Rattle.calls.specs.Calls.{insertion, evaluation, question, pulling}
+use Rattle.calls.specs.Calls.{insertion, evaluation, set-point, question, pulling}
 use Rattle.calls.specs.PullingLaws.{pulled-case}
 use Rattle.calls.specs.WithdrawalLaws.{by-either-rule}
 use Rattle.mirror.specs.EveryListMirroredProof.{sound-call as sound-direct}
@@ -249,6 +250,7 @@ module _ (map : Tmesh) (mesh-sound : SoundMesh (map .mesh)) where
   sound-call e (entry (insertion withdraws con d ratio position)) =
       by-either-rule (λ after. SoundMesh (after .mesh)) withdraws e map con d ratio position mesh-sound (insertion-sound e con d ratio position)
   sound-call e (entry (evaluation s t)) = subst SoundMesh (sym (ready-mesh e map)) mesh-sound
+  sound-call e (entry (set-point s t)) = set-point-leaves e map s t (λ after. SoundMesh (after .mesh)) mesh-sound (subst SoundMesh (sym (ready-mesh e map)) mesh-sound)
   sound-call e (entry (question cell)) = subst SoundMesh (sym (ready-mesh e map)) mesh-sound
   sound-call e (entry (pulling n pull)) = pulled-case map n pull (λ after. SoundMesh (after .mesh)) mesh-sound (λ _ _. repulled-sound n pull)
   sound-call e generate-knot-vectors = subst SoundMesh (sym (generated-mesh e map)) mesh-sound
@@ -266,6 +268,8 @@ module _ (map : Tmesh) (mesh-sound : SoundMesh (map .mesh)) where
   unfolding subsOf cellPoints
   listing-call e (entry (insertion withdraws con d ratio position)) n = insertion-lists-by e con d ratio position withdraws n
   listing-call e (entry (evaluation s t)) n = ap (λ (mesh : Mesh). getD (mesh .listed) n false) (ready-mesh e map)
+  listing-call e (entry (set-point s t)) n =
+      set-point-leaves e map s t (λ after. isListed after n ≡ isListed map n) refl (ap (λ (mesh : Mesh). getD (mesh .listed) n false) (ready-mesh e map))
   listing-call e (entry (question cell)) n = ap (λ (mesh : Mesh). getD (mesh .listed) n false) (ready-mesh e map)
   listing-call e (entry (pulling m pull)) n = pulled-case map m pull (λ after. isListed after n ≡ isListed map n) refl (λ _ _. refl)
   listing-call e generate-knot-vectors n = ap (λ (mesh : Mesh). getD (mesh .listed) n false) (generated-mesh e map)

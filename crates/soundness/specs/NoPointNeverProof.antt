@@ -37,12 +37,14 @@ use Rattle.t_mesh.specs.declared.t_mesh.Tmesh.{Tmesh}
 use Rattle.pull.specs.declared.Pulled.{Pulled}
 use Rattle.knot_vectors.specs.Knots.{generateKnotVectors}
 use Rattle.surface.specs.Evaluation.{evaluationNumber, subsOf}
+use Rattle.surface.specs.SetPoint.{weighty, whereWeighty, weighed}
+use Rattle.surface.specs.SetPointLaws.{set-point-case}
 use Rattle.surface.specs.declared.evaluation.EvaluationAnswer.{EvaluationAnswer}
 use Rattle.surface.specs.declared.evaluation.EvaluationAnswer.the-variants.{Is, Refused as NoValue}
 use Rattle.cells.specs.Cells.{cellNumber, cellPoints}
 use Rattle.cells.specs.declared.CellAnswer.{CellAnswer}
 use Rattle.cells.specs.declared.CellAnswer.the-variants.{Is as Words, Refused as NoWords}
-use Rattle.calls.specs.Calls.{insertion, evaluation, question, pulling}
+use Rattle.calls.specs.Calls.{insertion, evaluation, set-point, question, pulling}
 use Rattle.calls.specs.PullingLaws.{setting-case}
 use Rattle.soundness.specs.EveryMapProof.{of-sound}
 use Rattle.soundness.specs.InsertionLaws.{KnownAnswer}
@@ -61,6 +63,11 @@ answer-not (NotAdded refusal) known = known
 evaluation-not : (answer : EvaluationAnswer) → KnownEvaluation answer → eqb (evaluationNumber answer) 11 ≡ false
 evaluation-not (Is value) known = refl
 evaluation-not (NoValue refusal) known = met-known refusal known
+
+weighed-not : (answer : EvaluationAnswer) → KnownEvaluation answer → eqb (evaluationNumber (weighed answer)) 11 ≡ false
+unfolding whereWeighty
+weighed-not (Is value) known = cond-case (weighty value) (λ answer. eqb (evaluationNumber answer) 11 ≡ false) _ _ (λ _. refl) (λ _. refl)
+weighed-not (NoValue refusal) known = met-known refusal known
 
 question-not : (answer : CellAnswer) → KnownQuestion answer → eqb (cellNumber answer) 11 ≡ false
 question-not (Words words) known = refl
@@ -188,6 +195,8 @@ unless-unmade : (map : Tmesh) → SoundMesh (map .mesh) → (e : Float) (call : 
 unless-unmade map sound e (entry (insertion withdraws con d ratio position)) =
     answer-not (addControlPoint e map con d ratio position .answer) (insertion-known map sound e con d ratio position)
 unless-unmade map sound e (entry (evaluation s t)) = evaluation-not (subsOf e map s t .answer) (evaluation-known map sound e s t)
+unless-unmade map sound e (entry (set-point s t)) =
+    set-point-case e map s t (λ given. eqb (evaluationNumber (given .answer)) 11 ≡ false) (λ _. weighed-not (subsOf e map s t .answer) (evaluation-known map sound e s t)) (λ _. refl)
 unless-unmade map sound e (entry (question cell)) = question-not (cellPoints e map cell .answer) (question-known map sound e cell)
 unless-unmade map sound e (entry (pulling n pull)) =
     setting-case map n pull (λ (set : Pulled). Unless (isMade (storeOf map .made) n) (outcomeNumber (set .outcome)))

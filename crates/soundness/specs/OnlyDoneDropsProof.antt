@@ -10,12 +10,13 @@ use Rattle.insertion.specs.declared.insertion.InsertAnswer.the-variants.{Done a
 use Rattle.knot_vectors.specs.Knots.{AllKnots, all, none, allKnots, keeping, generateKnotVectors}
 use Rattle.knot_vectors.specs.declared.knots.Generated.{Generated}
 use Rattle.surface.specs.Evaluation.{withKnots, subsOf}
+use Rattle.surface.specs.SetPointLaws.{set-point-leaves}
 use Rattle.t_mesh.specs.Insertion.{keptAfter, addControlPoint, addByRule}
 use Rattle.t_mesh.specs.Tmesh.{storeOf, isListed}
 use Rattle.t_mesh.specs.declared.t_mesh.Position.{Position}
 use Rattle.t_mesh.specs.declared.t_mesh.Tmesh.{Tmesh}
 use Rattle.cells.specs.Cells.{cellPoints}
-use Rattle.calls.specs.Calls.{insertion, evaluation, question, pulling}
+use Rattle.calls.specs.Calls.{insertion, evaluation, set-point, question, pulling}
 use Rattle.calls.specs.PullingLaws.{pulled-case}
 use Rattle.calls.specs.WithdrawalLaws.{by-either-rule}
 use Rattle.counting.specs.BoolLaws.{both-ways, cond-case}
@@ -56,6 +57,8 @@ unfolding subsOf cellPoints generateKnotVectors
 only-done-drops e map (entry (insertion withdraws con d ratio position)) k done =
     let same = keeps-inserted withdraws e map con d ratio position k done in (same .0, λ other. same .1)
 only-done-drops e map (entry (evaluation s t)) k done = (keeps e map k .0, λ other. keeps e map k .1)
+only-done-drops e map (entry (set-point s t)) k done =
+    let same = set-point-leaves e map s t (Keeps map) (k, (refl, refl)) (keeps e map k) in (same .0, λ other. same .1)
 only-done-drops e map (entry (question cell)) k done = (keeps e map k .0, λ other. keeps e map k .1)
 only-done-drops e map (entry (pulling n pull)) k done =
     let same = pulled-case map n pull (Keeps map) (k, (refl, refl)) (λ _ _. (k, (refl, refl))) in (same .0, λ other. same .1)

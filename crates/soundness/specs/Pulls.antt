@@ -1,8 +1,8 @@
 -- THE PULLS OF A MAP, after every list of calls of the kinds of MapCalls, with any arguments, whatever they answer. Each of the 128 numbers has the pull that was last set for it by a
 -- call that was answered 0, and 1.0 if there was none: so one for which no such call was made has the pull 1.0, whether it was made by an insertion, done or torn, or alone, or not at
 -- all; and one that is not made has it too, so that a point has it when it is made. Where every pull so set is 1.0, every evaluation is the one without pulls, bit for bit; of settings
--- that are refused nothing is asked. And nothing but evaluations sees the pulls: a list leaves the points with their sides, how many are made, the positions, the listing, the kept knots
--- and the index that it leaves without its settings of pulls, and on any map every call but an evaluation tells what it tells where every pull is 1.0.
+-- that are refused nothing is asked. And nothing but evaluations and set-points sees the pulls: a list leaves the points with their sides, how many are made, the positions, the listing, the kept knots
+-- and the index that it leaves without its settings of pulls, and on any map every other call tells what it tells where every pull is 1.0.
 -- Every beginning of a list is a list, so that it is so throughout one.
 use Prim.Native.Nat.{ℕ, _<_}
 use mathlib.Core.Path.{_≡_}
@@ -12,7 +12,7 @@ use lib.Dec.{eqb}
 use lib.Ieee.{Float}
 use Rattle.float64.specs.Literals.{oneLiteral}
 use Rattle.control_point.specs.Point.{isMade}
-use Rattle.calls.specs.Calls.{Call, insertion, evaluation, question, pulling}
+use Rattle.calls.specs.Calls.{Call, insertion, evaluation, set-point, question, pulling}
 use Rattle.surface.specs.Evaluation.{subsOf}
 use Rattle.surface.specs.Plain.{plainSubs}
 use Rattle.t_mesh.specs.Tmesh.{unpulled, pullOf, storeOf, newTmesh}
@@ -26,6 +26,7 @@ use Rattle.soundness.specs.Theorems.{EveryMap}
 abbrev pub entryPull : ℕ → Call → ℕ → Float → Float
 entryPull number (insertion withdraws con d ratio position) n before = before
 entryPull number (evaluation s t) n before = before
+entryPull number (set-point s t) n before = before
 entryPull number (question cell) n before = before
 entryPull number (pulling m pull) n before = cond (eqb n m && eqb number 0) pull before
 
@@ -98,6 +99,7 @@ allUnpulled own =
 abbrev pub isPulling : Call → Bool
 isPulling (insertion withdraws con d ratio position) = false
 isPulling (evaluation s t) = false
+isPulling (set-point s t) = false
 isPulling (question cell) = false
 isPulling (pulling n pull) = true
 
@@ -116,10 +118,11 @@ withoutSettings (call ∷ rest) = cond (setsPull call) (withoutSettings rest) (c
 abbrev pub PullsUnseen : Type 0
 PullsUnseen = (e : Float) (own : Tmesh) (calls : List MapCall) → allUnpulled (mapAfterAll e own calls) ≡ allUnpulled (mapAfterAll e own (withoutSettings calls))
 
--- whether a call is an evaluation
+-- whether a call is an evaluation or a set-point
 abbrev pub isEvaluation : Call → Bool
 isEvaluation (insertion withdraws con d ratio position) = false
 isEvaluation (evaluation s t) = true
+isEvaluation (set-point s t) = true
 isEvaluation (question cell) = false
 isEvaluation (pulling n pull) = false
 
@@ -130,6 +133,6 @@ evaluates (point-knot-vectors n) = false
 evaluates (cast-ray n d buffer) = false
 evaluates (direct call) = false
 
--- On every map: every call but an evaluation tells what it tells where every pull is 1.0.
+-- On every map: every call but an evaluation and a set-point tells what it tells where every pull is 1.0.
 abbrev pub PullsUntold : Type 0
 PullsUntold = (e : Float) (own : Tmesh) (call : MapCall) → evaluates call ≡ false → toldTo e own call ≡ toldTo e (allUnpulled own) call

@@ -37,10 +37,11 @@ use Rattle.knot_vectors.specs.Knots.{AllKnots, all, none, onAll, withRow, rowsF
 use Rattle.surface.specs.Evaluation.{withKnots, subsOf}
 use Rattle.surface.specs.EvaluationLaws.{generated-mesh, ready-mesh}
 use Rattle.surface.specs.PlainProof.{unpulled-is-plain}
+use Rattle.surface.specs.SetPointLaws.{set-point-leaves, both-set-points}
 use Rattle.grid_index.specs.Index.{cellOf}
 use Rattle.grid_index.specs.declared.Index.{Index}
 use Rattle.cells.specs.Cells.{cellAnswerBy, cellTold, cellPoints}
-use Rattle.calls.specs.Calls.{insertion, evaluation, question, pulling}
+use Rattle.calls.specs.Calls.{insertion, evaluation, set-point, question, pulling}
 use Rattle.calls.specs.ListLaws.{set-case}
 use Rattle.calls.specs.PullingLaws.{setting-case, pulled-case}
 use Rattle.calls.specs.WithdrawalLaws.{by-either-rule}
@@ -125,6 +126,8 @@ module _ (map : Tmesh) (sound : SoundMesh (map .mesh)) (unmade : Unmade (map .me
   pull-call (entry (insertion withdraws con d ratio position)) n below =
       by-either-rule (λ after. pullOf after n ≡ pullOf map n) withdraws e map con d ratio position refl (insertion-pull con d ratio position n below)
   pull-call (entry (evaluation s t)) n below = ap (λ (mesh : Mesh). getD (mesh .places) n noPlace .pull) (ready-mesh e map)
+  pull-call (entry (set-point s t)) n below =
+      set-point-leaves e map s t (λ after. pullOf after n ≡ pullOf map n) refl (ap (λ (mesh : Mesh). getD (mesh .places) n noPlace .pull) (ready-mesh e map))
   pull-call (entry (question cell)) n below = ap (λ (mesh : Mesh). getD (mesh .places) n noPlace .pull) (ready-mesh e map)
   pull-call (entry (pulling m pull)) n below =
       setting-case map m pull (λ (set : Pulled). pullOf (set .map) n ≡ entryPull (outcomeNumber (set .outcome)) (pulling m pull) n (pullOf map n))
@@ -141,6 +144,7 @@ module _ (map : Tmesh) (sound : SoundMesh (map .mesh)) (unmade : Unmade (map .me
   unmade-call (entry (insertion withdraws con d ratio position)) =
       by-either-rule (λ after. Unmade (after .mesh)) withdraws e map con d ratio position unmade (insertion-unmade con d ratio position)
   unmade-call (entry (evaluation s t)) = subst Unmade (sym (ready-mesh e map)) unmade
+  unmade-call (entry (set-point s t)) = set-point-leaves e map s t (λ after. Unmade (after .mesh)) unmade (subst Unmade (sym (ready-mesh e map)) unmade)
   unmade-call (entry (question cell)) = subst Unmade (sym (ready-mesh e map)) unmade
   unmade-call (entry (pulling m pull)) =
       pulled-case map m pull (λ after. Unmade (after .mesh)) unmade
@@ -223,6 +227,7 @@ module _ (e : Float) (n : ℕ) where
       → ((pull : Float) → call ≡ entry (pulling n pull) → numberTo e map call ≡ 0 → pull ≡ oneLiteral) → callPull e map call n before ≡ oneLiteral
   call-one map (entry (insertion withdraws con d ratio position)) before one h = one
   call-one map (entry (evaluation s t)) before one h = one
+  call-one map (entry (set-point s t)) before one h = one
   call-one map (entry (question cell)) before one h = one
   call-one map (entry (pulling m pull)) before one h =
       let number = numberTo e map (entry (pulling m pull)) in
@@ -374,6 +379,8 @@ module _ (e : Float) where
         let result = insertPoint e (storeOf map) (isListed map con) con d ratio in
         inserted-unseen (isWithdrawn withdraws (result .answer)) position (result .answer) (result .store)
     call-unseen (entry (evaluation s t)) = ready-unseen
+    call-unseen (entry (set-point s t)) =
+        both-set-points e map (allUnpulled map) s t (λ given bare. allUnpulled (given .map) ≡ allUnpulled (bare .map)) ready-unseen (same-unpulled map)
     call-unseen (entry (question cell)) = ready-unseen
     call-unseen (entry (pulling n pull)) =
         pulled-case map n pull (λ after. allUnpulled after ≡ allUnpulled map) refl (λ _ _. ap (withPlaces map) (unpulled-repulled (map .mesh .places) n pull))
@@ -386,6 +393,7 @@ module _ (e : Float) where
     unfolding addControlPoint cellPoints setPull
     call-told (entry (insertion withdraws con d ratio position)) other = refl
     call-told (entry (evaluation s t)) other = absurd (false≢true (sym other))
+    call-told (entry (set-point s t)) other = absurd (false≢true (sym other))
     call-told (entry (question cell)) other =
         ap (λ (outcome : Outcome). cellTold (cellAnswerBy outcome (cellOf (withKnots e map .map .index) cell))) ready-told
         ∙ ap (λ (index : Index). cellTold (cellAnswerBy (withKnots e (allUnpulled map) .outcome) (cellOf index cell))) (ap (λ (bare : Tmesh). bare .index) ready-unseen)

@@ -1,12 +1,13 @@
 -- The reading is computed.
 use mathlib.Core.Path.{refl}
 use lib.Ieee.{ofBits, ofFields, le, lt, eq, sub, add, div, sum, round, neg}
+use Rattle.float64.specs.Unit.{inUnit}
 use Rattle.control_point.specs.Connect.{connectable}
 use Rattle.control_point.specs.Point.{isMade}
 use Rattle.control_point.specs.Sides.{sidesOf}
 use Rattle.control_point.specs.Small.{millionth, small}
 use Rattle.store.specs.Store.{connectPoints, removeConnection}
-use Rattle.insertion.specs.Insert.{insertPoint, inUnit, checked, checkedIntervals}
+use Rattle.insertion.specs.Insert.{insertPoint, checked, checkedIntervals}
 use Rattle.t_mesh.specs.Insertion.{addControlPoint}
 use Rattle.t_mesh.specs.Tmesh.{newTmesh}
 use Rattle.soundness.specs.MapCalls.{mapAfterAll}

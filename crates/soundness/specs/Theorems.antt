@@ -1,10 +1,10 @@
--- Theorems on lists of calls on a map: statements only, with what they speak of. The lists are every list of insertions, evaluations, questions
+-- Theorems on lists of calls on a map: statements only, with what they speak of. The lists are every list of insertions, evaluations, set-points, questions
 -- of cells, settings of pulls, buildings of knots, rays and direct calls on a fresh map of any border weight and corners, with any closeness and any arguments, calls
 -- refused, torn or withdrawn among them. Of the maps that they leave is said that links are mirrored and how they are counted, what is listed, that no
 -- connect of an insertion fails, and where 11 is answered; the call that is spoken of may have a closeness other than the list's.
 use Prim.Native.Nat.{ℕ, _<_, _*_}
 use mathlib.Core.Path.{_≡_}
-use mathlib.Core.Bool.{true, false, not, _&&_, _||_}
+use mathlib.Core.Bool.{true, false, cond, not, _&&_, _||_}
 use mathlib.Core.List.{List, [], _∷_}
 use mathlib.Core.Logic.{_⊎_}
 use lib.Dec.{eqb}
@@ -35,12 +35,13 @@ use Rattle.t_mesh.specs.Insertion.{addControlPoint}
 use Rattle.t_mesh.specs.Tmesh.{storeOf, withStore, isListed, newTmesh}
 use Rattle.t_mesh.specs.declared.t_mesh.Position.{Position}
 use Rattle.t_mesh.specs.declared.t_mesh.Tmesh.{Tmesh}
-use Rattle.surface.specs.Evaluation.{subsOf}
+use Rattle.surface.specs.Evaluation.{evaluationNumber, withKnots, subsOf}
+use Rattle.surface.specs.SetPoint.{onMap, setPoint}
 use Rattle.surface.specs.declared.evaluation.EvaluationAnswer.the-variants.{Refused as NoValue}
 use Rattle.cells.specs.Cells.{cellPoints}
 use Rattle.cells.specs.declared.CellAnswer.the-variants.{Refused as NoWords}
 use Rattle.census.specs.Census.{sidesThat, countsOf}
-use Rattle.soundness.specs.MapCalls.{MapCall, generate-knot-vectors, direct, mapCallWithdraws, afterCall, mapAfterAll, directs, addsPoint, numberTo, pointsMade}
+use Rattle.soundness.specs.MapCalls.{MapCall, generate-knot-vectors, direct, mapCallWithdraws, afterCall, mapAfterAll, directs, addsPoint, numberTo, asksSetPoint, pointsMade}
 
 -- ---- the maps
 -- what holds of the map after every list of calls on every fresh one
@@ -80,10 +81,14 @@ ListingGrows =
     → isListed (afterCall e map call) n ≡ ((addsPoint e map call && eqb n (storeOf map .made)) || isListed map n))
 
 -- ---- refusals
--- On every map: a call that is refused leaves the map as it was, the kept knots and their index too; one that is torn, 8, does so where it withdraws torn insertions.
+-- On every map: a call that is refused leaves the map as it was, the kept knots and their index too; one that is torn, 8, does so where it withdraws torn insertions. A set-point that is refused 15 leaves the
+-- map with the knots that its evaluation kept or built, and nothing else is another.
 abbrev pub RefusedKeepsMap : Type 0
 RefusedKeepsMap =
-    (e : Float) (map : Tmesh) (call : MapCall) → (numberTo e map call ≡ 0 → ⊥) → (numberTo e map call ≡ 8 → mapCallWithdraws call ≡ true) → afterCall e map call ≡ map
+    (e : Float) (map : Tmesh) (call : MapCall)
+    → (numberTo e map call ≡ 0 → ⊥)
+    → (numberTo e map call ≡ 8 → mapCallWithdraws call ≡ true)
+    → afterCall e map call ≡ cond (asksSetPoint call && eqb (numberTo e map call) 15) (withKnots e map .map) map
 
 -- ---- the kept knots and their index
 -- On every map: only an insertion done drops the kept knots and their index. Every other call, refused or not, leaves both kept, and they are
@@ -155,7 +160,7 @@ pub record Seeking (e : Float) (store : Store) (con : ℕ) (d : TmeshDirection) 
       ≡ Failed NoPoint → ⊥
 
 -- where 11 is met on a map: a call answers it where a point that it is given was never made, and nowhere else, so that an insertion, an
--- evaluation, a question and the building of all knots never do, nor a walk, a ray, the knots or the setting of the pull of a made point; and no search of an insertion fails by it
+-- evaluation, a set-point, a question and the building of all knots never do, nor a walk, a ray, the knots or the setting of the pull of a made point; and no search of an insertion fails by it
 pub record MeetsPoints (map : Tmesh) : Type 0 where
   pub answers : (e : Float) (call : MapCall) → eqb (numberTo e map call) 11 ≡ not (pointsMade map call)
   pub seeks : (e : Float) (con : ℕ) (d : TmeshDirection) (ratio : Float) (position : Position)
@@ -166,7 +171,7 @@ pub record MeetsPoints (map : Tmesh) : Type 0 where
 abbrev pub NoPointNever : Type 0
 NoPointNever = EveryMap MeetsPoints
 
--- ---- what an evaluation and a question are refused by
+-- ---- what an evaluation, a set-point and a question are refused by
 -- one of a list
 abbrev pub OneOf : ℕ → List ℕ → Type 0
 OneOf n [] = ⊥
@@ -177,6 +182,14 @@ abbrev pub EvaluationRefusals : Type 0
 EvaluationRefusals =
     EveryMap
     (λ map. (e s t : Float) (refusal : Refusal) → subsOf e map s t .answer ≡ NoValue refusal → OneOf (refusalNumber refusal) (3 ∷ (4 ∷ (9 ∷ []))))
+
+-- A set-point answers 0, 3, 4, 9, 15 or 20, and 20 exactly where s or t does not lie from 0 to 1.
+abbrev pub SetPointNumbers : Type 0
+SetPointNumbers =
+    EveryMap
+    (λ map.
+    (e s t : Float)
+    → let number = evaluationNumber (setPoint e map s t .answer) in OneOf number (0 ∷ (3 ∷ (4 ∷ (9 ∷ (15 ∷ (20 ∷ [])))))) × (eqb number 20 ≡ not (onMap s t)))
 
 -- A question is refused 3, 4 or 9, and by no other number.
 abbrev pub QuestionRefusals : Type 0

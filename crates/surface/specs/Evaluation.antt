@@ -3,16 +3,15 @@
 -- axis by axis, each sum from +0.0 over the listed points in the order of their numbers, every product, quotient and sum rounding once;
 -- and beside it the sum of the weights. The source has no pulls; without them it is as in Plain.antt.
 use Prim.Native.Nat.{ℕ, zero, suc, _+_}
-use mathlib.Core.Bool.{Bool, false, cond, _&&_}
+use mathlib.Core.Bool.{cond}
 use mathlib.Core.List.{[], _∷_}
-use lib.Ieee.{Float, inf, binary64, add, mul, div, lt}
+use lib.Ieee.{Float, binary64, add, mul, div}
 use Rattle.float64.specs.Literals.{zeroLiteral}
 use Rattle.basis.specs.Binary64.{binary64Arithmetic, knots}
 use Rattle.basis.specs.Formula.{formula}
-use Rattle.control_point.specs.Told.{Told, float, tells, unless, refusalTold, refusedOr}
+use Rattle.control_point.specs.Told.{Told, float, tells, refusalTold, refusedOr}
 use Rattle.control_point.specs.declared.refusal.Outcome.{Outcome}
 use Rattle.control_point.specs.declared.refusal.Outcome.the-variants.{Done, Refused as NotBuilt}
-use Rattle.control_point.specs.declared.refusal.Refusal.the-variants.{NoWeight}
 use Rattle.grid_index.specs.Index.{knotsIn}
 use Rattle.ray.specs.declared.knots.PointKnots.{PointKnots}
 use Rattle.t_mesh.specs.Tmesh.{Axis, X, Y, Z, coordinate, positionOf, pullOf, isListed}
@@ -122,18 +121,3 @@ withKnotsTable e map next =
 -- its table: the value, by the knots
 abbrev pub subsTable : Float → Tmesh → Float → Float → Told
 subsTable e map s t = withKnotsTable e map (λ own. valueTold (valueOf own s t))
-
--- ---- the set-point: 15 unless the weight is positive and finite
-abbrev pub weighty : Evaluation → Bool
-weighty value = lt zeroLiteral (value .weight) && lt (value .weight) (inf false)
-
-unfoldable pub setPoint : Evaluation → EvaluationAnswer
-setPoint value = cond (weighty value) (Is value) (Refused NoWeight)
-
-abbrev pub setPointTable : Evaluation → Told
-setPointTable value = unless 15 (weighty value) (valueTold value)
-
--- an evaluation's answer as a set-point
-abbrev pub asSetPoint : EvaluationAnswer → EvaluationAnswer
-asSetPoint (Is value) = setPoint value
-asSetPoint (Refused refusal) = Refused refusal

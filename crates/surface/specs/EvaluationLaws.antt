@@ -9,19 +9,17 @@ use Rattle.float64.specs.Literals.{zeroLiteral}
 use Rattle.basis.specs.Binary64.{binary64Arithmetic, knots}
 use Rattle.basis.specs.Formula.{formula}
 use Rattle.control_point.specs.declared.refusal.Outcome.{Outcome}
-use Rattle.control_point.specs.Told.{Told, unless, refusedOr}
+use Rattle.control_point.specs.Told.{Told, refusedOr}
 use Rattle.control_point.specs.declared.refusal.Outcome.the-variants.{Done, Refused}
-use Rattle.control_point.specs.declared.refusal.Refusal.the-variants.{NoWeight}
 use Rattle.ray.specs.declared.knots.PointKnots.{PointKnots}
 use Rattle.t_mesh.specs.Tmesh.{Axis, X, Y, Z, coordinate, placeUnder, positionOf, isListed}
 use Rattle.t_mesh.specs.declared.t_mesh.Place.{Place}
 use Rattle.t_mesh.specs.declared.t_mesh.Position.{Position}
 use Rattle.t_mesh.specs.declared.t_mesh.Tmesh.{Tmesh}
-use Rattle.surface.specs.Evaluation.{knotsOf, weightOf, shareBy, sumFrom, sumOf, shareWith, valueWith, valueTold, evaluationTold, valueOf, answerBy, evaluatedBy, withKnots, withKnotsTable, subsOf, subsTable, weighty, setPoint, setPointTable}
+use Rattle.surface.specs.Evaluation.{knotsOf, weightOf, shareBy, sumFrom, sumOf, shareWith, valueWith, valueTold, evaluationTold, valueOf, answerBy, evaluatedBy, withKnots, withKnotsTable, subsOf, subsTable}
 use Rattle.knot_vectors.specs.Knots.{AllKnots, all, none, allKnots, keeping, generateKnotVectors}
 use Rattle.surface.specs.declared.evaluation.Evaluation.{Evaluation}
 use Rattle.surface.specs.declared.evaluation.EvaluationAnswer.{EvaluationAnswer}
-use Rattle.surface.specs.declared.evaluation.EvaluationAnswer.the-variants.{Is, Refused as NoValue}
 use Rattle.surface.specs.declared.evaluation.Share.{Share}
 use Rattle.knot_vectors.specs.declared.knots.Generated.{Generated}
 
@@ -172,7 +170,7 @@ module _ (e : Float) (map : Tmesh) where
   unfolding subsOf
   evaluated-ready s t outcome ready value answer h v a = rw (a, v) (ap (λ (x : Generated). evaluatedBy (x .outcome) (x .map) s t) h)
 
--- ---- both tell what their tables say
+-- ---- it tells what its table says
 -- what is told of the knots kept or built, or else of the refusal, is the table of what wants knots
 pub with-knots-told : (e : Float) (map : Tmesh) (next : Tmesh → Told) → refusedOr (withKnots e map .outcome) (next (withKnots e map .map)) ≡ withKnotsTable e map next
 unfolding withKnots
@@ -191,11 +189,3 @@ answer-told (Refused refusal) value = refl
 pub subs-told : (e : Float) (map : Tmesh) (s t : Float) → evaluationTold (subsOf e map s t .answer) ≡ subsTable e map s t
 unfolding subsOf
 subs-told e map s t = answer-told (withKnots e map .outcome) (valueOf (withKnots e map .map) s t) ∙ with-knots-told e map (λ own. valueTold (valueOf own s t))
-
-pub set-point-told : (value : Evaluation) → evaluationTold (setPoint value) ≡ setPointTable value
-unfolding setPoint
-set-point-told value = by-test (weighty value)
-  where
-    by-test : (b : Bool) → evaluationTold (cond b (Is value) (NoValue NoWeight)) ≡ unless 15 b (valueTold value)
-    by-test true = refl
-    by-test false = refl

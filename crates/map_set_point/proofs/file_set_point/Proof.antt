@@ -4,8 +4,9 @@ use mathlib.Core.Path.{_≡_, _∙_, sym}
 use Rattle.control_point.specs.Small.{millionth}
 use Rattle.control_point.specs.ToldLaws.{beside}
 use Rattle.surface.specs.Evaluation.{evaluationTold}
+use Rattle.surface.specs.SetPoint.{setPoint}
 use Rattle.surface.specs.declared.evaluation.EvaluationAnswer.{EvaluationAnswer}
-use Rattle.map_file.specs.Run.{fileMap, setPointAt, fileSetPoint}
+use Rattle.map_file.specs.Run.{fileMap, fileSetPoint}
 use Rattle.map_file.specs.RunLaws.{set-point-valid, set-point-refused}
 use Rattle.map_file.specs.Table.{fileSetPointTable}
 use Rattle.map_file.specs.TableLaws.{file-set-point-told}
@@ -35,7 +36,7 @@ returns c =
     let known = c .before .before in
     let check = known .before .before in
     let a = check .before .before .args in
-    let answered : c .edited-set-point .result ≡ setPointAt millionth (fileMap millionth (a .file .now) (known .check .given .0 .0)) (a .s) (a .t) = c .edited-set-point .ensures in
+    let answered : c .edited-set-point .result ≡ setPoint millionth (fileMap millionth (a .file .now) (known .check .given .0 .0)) (a .s) (a .t) .answer = c .edited-set-point .ensures in
     promised (check .before .before) _
     (answered
     ∙ set-point-valid millionth (a .file .now) (a .s) (a .t) _ (sym (check .validate .ensures .0) ∙ known .check .given .1))

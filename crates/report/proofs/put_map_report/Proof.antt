@@ -7,7 +7,8 @@ use Rattle.control_point.specs.Small.{millionth}
 use Rattle.store.specs.declared.store.Store.{Store}
 use Rattle.t_mesh.specs.Tmesh.{storeOf}
 use Rattle.census.specs.Census.{countsOf}
-use Rattle.map_file.specs.Run.{setPointAt}
+use Rattle.surface.specs.SetPoint.{setPoint}
+use Rattle.surface.specs.declared.evaluation.Evaluated.{Evaluated}
 use Rattle.openings.specs.Openings.{openingsOf}
 use Rattle.report_text.specs.Put.{Put, Fits}
 use Rattle.report_lines.specs.Lines.{countsLine, openLines, midLine}
@@ -25,7 +26,7 @@ module _ (start : tie.Start) where
   open-text = openLines (openingsOf (storeOf (start .args .map)))
 
   abbrev mid-text : List ℕ
-  mid-text = midLine (setPointAt millionth (start .args .map) half half)
+  mid-text = midLine (setPoint millionth (start .args .map) half half .answer)
 
 -- the counts put are the map's
 counted : (c : tie.After-put-counts-line) → let start = c .before .before .before .before in
@@ -63,14 +64,14 @@ opened : (c : tie.After-put-open-lines) → let put = c .before .before .before 
     Put (put .put-counts-line .last .0) (put .put-counts-line .result) (open-text (put .before .before .before .before)) (c .put-open-lines .last .0) (c .put-open-lines .result)
 opened c = put-as (ap (λ (store : Store). openLines (openingsOf store)) (c .before .store-of .ensures)) (c .put-open-lines .ensures)
 
-set-point-at-requires : tie.Need-set-point-at-requires
-set-point-at-requires c κs = search needs
+set-point-requires : tie.Need-set-point-requires
+set-point-requires c κs = search needs
 
 put-mid-line-requires : tie.Need-put-mid-line-requires
 put-mid-line-requires c κs =
     let open-put = c .before .before .before .before in
     let put = open-put .before .before .before .before .before in
-    fits-as (open-put .put-open-lines .result) _ _ (ap midLine (c .set-point-at .ensures .0))
+    fits-as (open-put .put-open-lines .result) _ _ (ap (λ (mid : Evaluated). midLine (mid .answer)) (c .before .set-point .ensures .0))
     (fits-then (mid-text (put .before .before .before .before)) (room put) (opened open-put))
 
 same-length : tie.Need-same-length
@@ -81,7 +82,7 @@ returns c =
     let mid-put = c .before .before in
     let open-put = mid-put .before .before .before .before .before in
     put-then (counted (open-put .before .before .before .before .before))
-    (put-then (opened open-put) (put-as (ap midLine (mid-put .before .set-point-at .ensures .0)) (mid-put .put-mid-line .ensures)))
+    (put-then (opened open-put) (put-as (ap (λ (mid : Evaluated). midLine (mid .answer)) (mid-put .before .before .set-point .ensures .0)) (mid-put .put-mid-line .ensures)))
 
 pub put-map-report-spec : {M : Type 1} → statement M
 put-map-report-spec =
@@ -91,7 +92,7 @@ put-map-report-spec =
     put-counts-line-requires
     store-of-requires
     put-open-lines-requires
-    set-point-at-requires
+    set-point-requires
     put-mid-line-requires
     same-length
     returns)

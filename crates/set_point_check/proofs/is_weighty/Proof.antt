@@ -1,7 +1,7 @@
 -- `is_weighty` meets its contract: each return picks its case by the first test, and 1.0 / 0.0 is the infinity.
 use Rattle.float64.specs.BitsLaws.{infinity}
-use Rattle.evaluation.proofs.evaluation.is_weighty.Statement.{statement}
-use Rattle.evaluation.proofs.evaluation.is_weighty.Tie as tie
+use Rattle.set_point_check.proofs.is_weighty.Statement.{statement}
+use Rattle.set_point_check.proofs.is_weighty.Tie as tie
 
 returns : tie.Need-returns
 returns c = simp (c .before .if1 .taken, infinity)
