@@ -31,7 +31,7 @@ pub fn share_of(knots: PointKnots, place: Place, s: f64, t: f64) -> Share
 }
 
 // The value, where the knots were built.
-pub fn answer_by(outcome: Outcome, value: Evaluation) -> EvaluationAnswer
+fn answer_by(outcome: Outcome, value: Evaluation) -> EvaluationAnswer
     ensures { λ r. ⌜ r ≡ answerBy outcome value ⌝ }
 {
     match outcome {

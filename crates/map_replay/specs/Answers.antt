@@ -91,6 +91,11 @@ unfoldable pub evaluationJudged : EvaluationAnswer → List ℕ → Judged
 evaluationJudged (Is value) call = record { right = eqb (byteAt call 17) 0 && valueIsRight value (drop 18 call); bytes = 50 }
 evaluationJudged (NotEvaluated refusal) call = record { right = eqb (byteAt call 17) (refusalNumber refusal); bytes = 18 }
 
+-- what was asked of a lent map, or why none was lent
+abbrev pub whereLent : Outcome → EvaluationAnswer → EvaluationAnswer
+whereLent Settled answer = answer
+whereLent (NotSettled refusal) answer = NotEvaluated refusal
+
 -- a call that answers a number alone held against the one that stands behind so many bytes: the knots of all listed points, or the setting of a pull
 abbrev pub outcomeJudged : Outcome → ℕ → List ℕ → Judged
 outcomeJudged outcome behind call = record { right = eqb (outcomeNumber outcome) (byteAt call behind); bytes = behind + 1 }

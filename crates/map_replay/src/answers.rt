@@ -4,7 +4,7 @@ ghost use mathlib.Core.Bool.{true, cond};
 ghost use Prim.Native.Nat.{_≤_};
 ghost use Rattle.counting.specs.Counting.{countBelow};
 ghost use Rattle.t_mesh.specs.Tmesh.{listedIn};
-ghost use Rattle.map_replay.specs.Answers.{countsAreRight, insertionJudged, floatsAreRight, outcomeIsRight, bytesTaken, rayJudged, knotsJudged, valueIsRight, evaluationJudged, outcomeJudged, cellIsRight, cellJudged, countsJudged};
+ghost use Rattle.map_replay.specs.Answers.{countsAreRight, insertionJudged, floatsAreRight, outcomeIsRight, bytesTaken, rayJudged, knotsJudged, valueIsRight, evaluationJudged, whereLent, outcomeJudged, cellIsRight, cellJudged, countsJudged};
 ghost use Rattle.map_replay.specs.Answers.{entryByte, entriesAreRight, openingsJudged, flagIsAt, listingIsRight, positionIsRight, placeIsRight, placesAreRight, rowIsRight, rowsAreRight, shapeIsRight, keptAreRight, mapBytes, mapIsRight};
 use big_endian::after;
 use big_endian::byte_at;
@@ -157,6 +157,16 @@ pub fn judge_evaluation(answer: EvaluationAnswer, call: &[u8]) -> Judged
             right: number == refusal.number(),
             bytes: 18,
         },
+    }
+}
+
+// What was asked of a lent map, or why none was lent.
+pub fn where_lent(outcome: Outcome, answer: EvaluationAnswer) -> EvaluationAnswer
+    ensures { λ r. ⌜ r ≡ whereLent outcome answer ⌝ }
+{
+    match outcome {
+        Outcome::Done => answer,
+        Outcome::Refused(refusal) => EvaluationAnswer::Refused(refusal),
     }
 }
 

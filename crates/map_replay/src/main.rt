@@ -14,6 +14,7 @@ use crate::answers::judge_openings;
 use crate::answers::judge_outcome;
 use crate::answers::judge_ray;
 use crate::answers::map_is_right;
+use crate::answers::where_lent;
 use big_endian::after;
 use big_endian::byte_at;
 use big_endian::float_at;
@@ -23,8 +24,6 @@ use census::counts::counts;
 use control_point::sides::wide;
 use control_point::small::closeness;
 use control_point::t_mesh_direction::TmeshDirection;
-use evaluation::evaluation::answer_by;
-use evaluation::evaluation::as_set_point;
 use evaluation::evaluation::subs;
 use knot_vectors::knots::generate_knot_vectors;
 use lent_surface::lend;
@@ -42,6 +41,8 @@ use replay::count_outcome;
 use replay::is_end;
 use replay::outcome_of;
 use replay::read_case;
+use set_point::lent_set_point;
+use set_point::set_point;
 use store::store::Store;
 use stored_calls::call::replay_call;
 use stored_calls::points::both;
@@ -51,6 +52,7 @@ use stored_ledger::WITHDRAWING;
 use stored_ledger::ledger_holds;
 use stored_ledger::no_calls;
 use stored_ledger::with_call;
+use surface::evaluation::EvaluationAnswer;
 use t_mesh::add::Added;
 use t_mesh::t_mesh::Position;
 use t_mesh::t_mesh::Tmesh;
@@ -80,6 +82,8 @@ const CELL: u8 = 8;
 const COUNTS: u8 = 9;
 
 const PULL: u8 = 11;
+
+const LENT_SET_POINT: u8 = 12;
 
 // A call made: the map after it, whether it answered what is stored, and how many bytes it takes.
 struct MapReplayed {
@@ -136,10 +140,10 @@ fn replay_evaluation(call: &[u8], map: Tmesh) -> MapReplayed {
 }
 
 fn replay_set_point(call: &[u8], map: Tmesh) -> MapReplayed {
-    let evaluated = subs(map, float_at(call, 1), float_at(call, 9));
-    let answer = evaluated.answer;
-    let judged = judge_evaluation(as_set_point(answer), call);
-    let next = evaluated.map;
+    let set = set_point(map, float_at(call, 1), float_at(call, 9));
+    let answer = set.answer;
+    let judged = judge_evaluation(answer, call);
+    let next = set.map;
     MapReplayed {
         map: next,
         right: judged.right,
@@ -168,8 +172,24 @@ fn replay_counts(call: &[u8], map: Tmesh) -> MapReplayed {
     }
 }
 
+// What is asked of a lent map: its set-point, or its value.
+fn asked_of_lent<'a>(
+    kind: u8,
+    across: &'a [[f64; 5]; 128],
+    upwards: &'a [[f64; 5]; 128],
+    places: &'a [[f64; 4]; 128],
+    listed: &'a [bool; 128],
+    s: f64,
+    t: f64,
+) -> EvaluationAnswer {
+    if kind == LENT_SET_POINT {
+        return lent_set_point(across, upwards, places, listed, s, t);
+    }
+    EvaluationAnswer::Is(lent_value(across, upwards, places, listed, s, t))
+}
+
 // The arrays start with every number listed, so that what lending leaves in them is seen.
-fn replay_lent(call: &[u8], map: Tmesh) -> MapReplayed {
+fn replay_lent(kind: u8, call: &[u8], map: Tmesh) -> MapReplayed {
     let row = [1.0; 5];
     let place = [1.0; 4];
     let mut across = [row; 128];
@@ -178,9 +198,10 @@ fn replay_lent(call: &[u8], map: Tmesh) -> MapReplayed {
     let mut listed = [true; 128];
     let lent = lend(&mut across, &mut upwards, &mut places, &mut listed, map);
     let s = float_at(call, 1);
-    let value = lent_value(&across, &upwards, &places, &listed, s, float_at(call, 9));
+    let t = float_at(call, 9);
+    let answer = asked_of_lent(kind, &across, &upwards, &places, &listed, s, t);
     let outcome = lent.outcome;
-    let judged = judge_evaluation(answer_by(outcome, value), call);
+    let judged = judge_evaluation(where_lent(outcome, answer), call);
     let next = lent.map;
     MapReplayed {
         map: next,
@@ -258,6 +279,11 @@ fn replay_direct(kind: u8, call: &[u8], map: Tmesh) -> MapReplayed {
     }
 }
 
+// Whether a call of a kind lends the map.
+fn is_lent(kind: u8) -> bool {
+    kind == LENT || kind == LENT_SET_POINT
+}
+
 // A call that asks for a value, a cell or the counts, sets a pull, or builds the knots of all listed points.
 fn replay_value(kind: u8, call: &[u8], map: Tmesh) -> MapReplayed {
     if kind == SET_POINT {
@@ -275,8 +301,8 @@ fn replay_value(kind: u8, call: &[u8], map: Tmesh) -> MapReplayed {
     if kind == GENERATION {
         return replay_generation(call, map);
     }
-    if kind == LENT {
-        return replay_lent(call, map);
+    if is_lent(kind) {
+        return replay_lent(kind, call, map);
     }
     replay_evaluation(call, map)
 }
