@@ -11,7 +11,7 @@ use crate::tallies::Numbers;
 /// weight, all values with a listed point whose pull is not 1.0, the cells that a listed point misses, and those that one of number 64 or more reaches.
 #[derive(Default)]
 pub struct Tally {
-    answers: [Numbers; 14],
+    answers: [Numbers; WORDS.len()],
     openings: u64,
     inferred: u64,
     withdrawn: Withdrawn,
@@ -47,7 +47,7 @@ impl Withdrawn {
     }
 }
 
-const WORDS: [&str; 14] = [
+const WORDS: [&str; 15] = [
     "insertion",
     "withdrawing",
     "ray",
@@ -57,6 +57,7 @@ const WORDS: [&str; 14] = [
     "openings",
     "lent value",
     "set-point",
+    "lent set-point",
     "cell",
     "counts",
     "pull set",
@@ -81,11 +82,12 @@ impl Tally {
             MapCall::Openings => 6,
             MapCall::Lend { .. } => 7,
             MapCall::SetPoint { .. } => 8,
-            MapCall::CellPoints { .. } => 9,
-            MapCall::Counts => 10,
-            MapCall::SetPull { .. } => 11,
-            MapCall::Direct(Call::Navigate(..)) => 13,
-            MapCall::Direct(_) => 12,
+            MapCall::LentSetPoint { .. } => 9,
+            MapCall::CellPoints { .. } => 10,
+            MapCall::Counts => 11,
+            MapCall::SetPull { .. } => 12,
+            MapCall::Direct(Call::Navigate(..)) => 14,
+            MapCall::Direct(_) => 13,
         };
         self.answers[kind].count(answer.number());
         if let (MapCall::Insert { withdraws: true, .. }, MapAnswer::Inserted(answer)) = (call, answer) {

@@ -230,11 +230,36 @@ fn direct_call(random: &mut Random, maps: &Maps) -> Call {
     }
 }
 
-/// A parameter in the map, on a knot as often as not, or outside.
+/// Parameters on the map: at its edges, the floats beside these, and one in the middle.
+pub const ON_MAP: [f64; 6] = [0.0, -0.0, 5e-324, 0.5, 0.9999999999999999, 1.0];
+
+/// Parameters off it: the floats beside its edges first, then such as are further away.
+pub const BEYOND_MAP: [f64; 12] = [
+    -5e-324,
+    1.0000000000000002,
+    -0.5,
+    -1.0,
+    1.5,
+    2.0,
+    5.0,
+    f64::MAX,
+    f64::MIN,
+    f64::INFINITY,
+    f64::NEG_INFINITY,
+    f64::NAN,
+];
+
+/// Places with each of some parameters across, upwards and both ways.
+pub fn places(parameters: &[f64]) -> impl Iterator<Item = (f64, f64)> {
+    parameters.iter().flat_map(|&x| [(x, 0.5), (0.5, x), (x, x)])
+}
+
+/// A parameter on the map, on a knot or at an edge as often as not, or off it.
 pub fn parameter(random: &mut Random) -> f64 {
     match random.below(12) {
-        0 => random.of(&[-0.5, -1.0, 1.5, 2.0, 5.0, f64::NAN, f64::INFINITY]),
-        1..=6 => random.of(&[0.0, 0.125, 0.25, 0.375, 0.5, 0.75, 0.999999, 1.0]),
+        0 => random.of(&BEYOND_MAP),
+        1 => random.of(&ON_MAP),
+        2..=6 => random.of(&[0.0, 0.125, 0.25, 0.375, 0.5, 0.75, 0.999999, 1.0]),
         _ => random.unit(),
     }
 }
@@ -270,6 +295,7 @@ pub fn question(random: &mut Random, map: &Map) -> MapCall {
         4 => MapCall::SetPoint { s, t },
         5 => MapCall::CellPoints { cell: cell(random, map) },
         6 => MapCall::Counts,
+        7 => MapCall::LentSetPoint { s, t },
         _ => MapCall::Evaluate { s, t },
     }
 }

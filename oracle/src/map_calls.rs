@@ -5,7 +5,7 @@ use crate::calls::{Answer, Call, assert_same_points, hold_against, perform, put_
 use crate::index::{Cell, cell_of};
 use crate::ledger::{Census, Ledger, is_mirrored};
 use crate::original;
-use crate::reading::{self, FULL, Insertion, Knots, NO_POINT, Point, RING, Side, Value, anticlockwise, clockwise};
+use crate::reading::{self, FULL, Insertion, Knots, NO_POINT, Point, RING, Side, Value, anticlockwise, clockwise, set_point};
 
 /// One call on a map.
 #[derive(Clone, Copy, Debug)]
@@ -19,8 +19,9 @@ pub enum MapCall {
     Openings,
     /// The map lent, and its value by what was lent.
     Lend { s: f64, t: f64 },
-    /// The set-point of an evaluation.
     SetPoint { s: f64, t: f64 },
+    /// The map lent, and its set-point by what was lent.
+    LentSetPoint { s: f64, t: f64 },
     /// Which listed points reach a cell.
     CellPoints { cell: u8 },
     /// The counts of the map.
@@ -114,7 +115,8 @@ impl Maps {
             MapCall::Ray { point, direction, count } => MapAnswer::Cast(self.ray(point, direction, count)),
             MapCall::Knots { point } => MapAnswer::Knotted(self.knots(point)),
             MapCall::Evaluate { s, t } | MapCall::Lend { s, t } => MapAnswer::Evaluated(self.evaluate(s, t)),
-            MapCall::SetPoint { s, t } => MapAnswer::Evaluated(self.evaluate(s, t).and_then(Value::set_point)),
+            MapCall::SetPoint { s, t } => MapAnswer::Evaluated(set_point(s, t, || self.evaluate(s, t))),
+            MapCall::LentSetPoint { s, t } => MapAnswer::Evaluated(self.evaluate(s, t).and_then(|value| set_point(s, t, || Ok(value)))),
             MapCall::Generate => MapAnswer::Generated(self.generate()),
             MapCall::Openings => MapAnswer::Opened(self.openings()),
             MapCall::CellPoints { cell } => MapAnswer::Reached(self.reading.listed.len(), self.cell_points(cell)),
@@ -350,6 +352,7 @@ pub fn put_map_call(out: &mut Bytes, call: MapCall) {
             [11, point].iter().for_each(|n| out.byte(*n));
             out.float(pull);
         }
+        MapCall::LentSetPoint { s, t } => at_place(12, s, t),
         MapCall::Direct(call) => {
             let start = out.0.len();
             put_call(out, call);

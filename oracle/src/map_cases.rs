@@ -1,14 +1,17 @@
 //! Lists of calls on whole maps, each with the answer of every call and the map at the end.
 use crate::bytes::Bytes;
 use crate::calls::Call;
-use crate::draw::{MapList, Plan, Pulls, REFUSED_PULLS, RING_PREFIXES, Withdrawing, cell, evaluation, full_map, map, question};
+use crate::draw::{
+    BEYOND_MAP, MapList, ON_MAP, Plan, Pulls, REFUSED_PULLS, RING_PREFIXES, Withdrawing, cell, evaluation, full_map, map, places, question,
+};
 use crate::index::{Cell, LINES};
 use crate::ledger::Census;
 use crate::map_calls::{MapAnswer, MapCall, put_map, put_map_answer, put_map_call};
 use crate::map_file::{SAMPLES, bits, sample};
 use crate::random::Random;
 use crate::reading::{
-    BORDER, CAPACITY, DOWN, FOREIGN, FULL, INTERVAL, Insertion, LEFT, NO_POINT, NO_WEIGHT, OPEN_SIDE, PULL, RATIO, RIGHT, TORN, UP, Value,
+    BORDER, CAPACITY, DOWN, FOREIGN, FULL, INTERVAL, Insertion, Knots, LEFT, NO_POINT, NO_WEIGHT, OFF_MAP, OPEN_SIDE, PULL, RATIO, RIGHT,
+    RING, TORN, UP, Value,
 };
 
 const ALL_RAYS: usize = 24;
@@ -142,8 +145,10 @@ fn worked_examples(random: &mut Random) -> Vec<MapList> {
     }
     let MapAnswer::Evaluated(Ok(outside)) = fresh.call(MapCall::Evaluate { s: 5.0, t: 0.5 }) else { unreachable!() };
     assert_eq!(outside.weight, 0.0);
-    assert_eq!(fresh.call(MapCall::SetPoint { s: 5.0, t: 0.5 }).number(), NO_WEIGHT);
-    fresh.call(MapCall::SetPoint { s: 0.5, t: 0.5 });
+    for (set_point, _) in SET_POINTS {
+        assert_eq!(fresh.call(set_point(5.0, 0.5)).number(), OFF_MAP);
+        assert_eq!(fresh.call(set_point(0.5, 0.5)).number(), 0);
+    }
     fresh.call(MapCall::Lend { s: 0.5, t: 0.5 });
     fresh.call(MapCall::Openings);
     assert_eq!(counts(&mut fresh), [4, 4, 4, 8, 0]);
@@ -187,6 +192,163 @@ fn worked_examples(random: &mut Random) -> Vec<MapList> {
     lists.extend([pulled_kept(random), pulled_unlisted(random), pulled_new(random), pulls_refused(), no_pull(), largest_pulls()]);
     lists.extend([infinite_weight(random), pulled_order(), pulls_lent(random), pulls_withdrawn(random), pulled_full(random)]);
     lists
+}
+
+/// The set-point by the call on a map, and by the one on the map lent, which builds the knots where none are kept before it looks at the place.
+const SET_POINTS: [(fn(f64, f64) -> MapCall, bool); 2] =
+    [(|s, t| MapCall::SetPoint { s, t }, false), (|s, t| MapCall::LentSetPoint { s, t }, true)];
+
+/// Lists with set-points on the map, at its edges, beside them and off it.
+fn set_points(random: &mut Random) -> Vec<MapList> {
+    let mut lists = vec![every_place(random)];
+    for (set_point, is_lent) in SET_POINTS {
+        lists.extend([none_kept_beyond(set_point, is_lent), kept_beyond(random, set_point)]);
+        lists.extend([cells_built_beyond(random, set_point, is_lent), cells_kept_beyond(random, set_point)]);
+        lists.extend([no_weight_beyond(set_point, is_lent)]);
+    }
+    lists.extend(refused_beyond(random));
+    lists.extend([0.0, -0.25, f64::INFINITY, f64::NAN].map(places_of_border));
+    lists
+}
+
+/// Every pair of parameters on the map and off it. A value is had at each, lent or not, and off the map too it has a weight at some; a set-point is had on
+/// the map alone. −0.0 is 0.
+fn every_place(random: &mut Random) -> MapList {
+    let mut list = square();
+    assert_eq!(list.insert(random, 0, RIGHT, 0.5).number(), 0);
+    let parameters = || ON_MAP.iter().map(|x| (*x, true)).chain(BEYOND_MAP.iter().map(|x| (*x, false)));
+    for ((s, on_map_across), (t, on_map_up)) in parameters().flat_map(|across| parameters().map(move |up| (across, up))) {
+        let value = list.call(MapCall::Evaluate { s, t });
+        assert_same_value(&value, &list.call(MapCall::Lend { s, t }));
+        for (set_point, _) in SET_POINTS {
+            let answer = list.call(set_point(s, t));
+            if on_map_across && on_map_up {
+                assert_same_value(&value, &answer);
+            } else {
+                assert_eq!(answer.number(), OFF_MAP);
+            }
+        }
+    }
+    assert!(value_at(&mut list, (-0.5, 1.5)).weight > 0.0);
+    assert_eq!(bits(&value_at(&mut list, (-0.0, -0.0))), bits(&value_at(&mut list, (0.0, 0.0))));
+    list
+}
+
+/// Asks for set-points off the map, which are all refused.
+fn ask_beyond(list: &mut MapList, set_point: fn(f64, f64) -> MapCall) {
+    for (s, t) in places(&BEYOND_MAP) {
+        assert_eq!(list.call(set_point(s, t)).number(), OFF_MAP);
+    }
+}
+
+/// No knots are kept before set-points off the map. The list ends with them: none are kept then, unless the map was lent.
+fn none_kept_beyond(set_point: fn(f64, f64) -> MapCall, is_lent: bool) -> MapList {
+    let mut list = square();
+    ask_beyond(&mut list, set_point);
+    assert_eq!(list.maps.reading.kept.is_some(), is_lent);
+    list
+}
+
+/// The knots kept are those of before a torn insertion, and built anew they are others. The list ends with set-points off the map, which leave them.
+fn kept_beyond(random: &mut Random, set_point: fn(f64, f64) -> MapCall) -> MapList {
+    let mut list = square();
+    assert_eq!(list.insert(random, 0, RIGHT, 0.5).number(), 0);
+    value_at(&mut list, AT);
+    assert_eq!(list.insert(random, 0, RIGHT, 0.0).number(), TORN);
+    let knots = |kept: &Option<Vec<Knots>>| kept.iter().flatten().map(|row| (row.s, row.t)).collect::<Vec<_>>();
+    let before = knots(&list.maps.reading.kept);
+    ask_beyond(&mut list, set_point);
+    assert_eq!(knots(&list.maps.reading.kept), before);
+    let mut built = list.maps.reading.clone();
+    assert_eq!(built.generate_knot_vectors(), Ok(()));
+    assert_ne!(knots(&built.kept), before);
+    list
+}
+
+/// The cell that corner 0 reaches until a torn insertion stands beside it, and the points that reach it then.
+const REACHED_BY_CORNER: u8 = 15;
+const AFTER_TORN: Cell = Cell { words: [30, 0], count: 4 };
+
+/// Set-points off the map while no knots are kept, and then a torn insertion: knots and index are those of after it, unless the map was lent before.
+fn cells_built_beyond(random: &mut Random, set_point: fn(f64, f64) -> MapCall, is_lent: bool) -> MapList {
+    let mut list = square();
+    assert_eq!(list.insert(random, 0, RIGHT, 0.5).number(), 0);
+    ask_beyond(&mut list, set_point);
+    assert_eq!(list.insert(random, 0, RIGHT, 0.0).number(), TORN);
+    assert_eq!(reached(&mut list, REACHED_BY_CORNER) == AFTER_TORN, !is_lent);
+    value_at(&mut list, AT);
+    list
+}
+
+/// The index kept is that of before a torn insertion, also after set-points off the map, and built anew it is another.
+fn cells_kept_beyond(random: &mut Random, set_point: fn(f64, f64) -> MapCall) -> MapList {
+    let mut list = square();
+    assert_eq!(list.insert(random, 0, RIGHT, 0.5).number(), 0);
+    let before = reached(&mut list, REACHED_BY_CORNER);
+    assert_eq!(list.insert(random, 0, RIGHT, 0.0).number(), TORN);
+    ask_beyond(&mut list, set_point);
+    assert_eq!(reached(&mut list, REACHED_BY_CORNER), before);
+    assert_eq!(list.call(MapCall::Generate).number(), 0);
+    assert_eq!(reached(&mut list, REACHED_BY_CORNER), AFTER_TORN);
+    list
+}
+
+/// A map without weight: off it a set-point is 20, and on it 15. The list ends with the first 15, after which the knots are kept.
+fn no_weight_beyond(set_point: fn(f64, f64) -> MapCall, is_lent: bool) -> MapList {
+    let mut list = square();
+    for point in 0..4 {
+        assert_eq!(list.set_pull(point, 0.0), 0);
+    }
+    ask_beyond(&mut list, set_point);
+    assert_eq!(list.maps.reading.kept.is_some(), is_lent);
+    assert_eq!(list.call(set_point(1.0, -0.0)).number(), NO_WEIGHT);
+    assert!(list.maps.reading.kept.is_some());
+    list
+}
+
+/// Maps whose knots are refused, by an opening, a border and a ring, and none are kept. On the map a set-point is refused as they are, and off it it is
+/// 20, with which the list ends. Such a map cannot be lent: by the call on the map lent it is refused so everywhere.
+fn refused_beyond(random: &mut Random) -> [MapList; 3] {
+    let cut = |calls: [Call; 2]| {
+        let mut list = square();
+        for call in calls {
+            assert_eq!(list.call(MapCall::Direct(call)).number(), 0);
+        }
+        list
+    };
+    let mut ring = square();
+    for &(con, direction, ratio) in RING_PREFIXES[1] {
+        assert_eq!(ring.insert(random, con, direction, ratio).number(), 0);
+    }
+    let open_side = cut([Call::RemoveEdgeCondition(3, UP), Call::RemoveEdgeCondition(3, LEFT)]);
+    let border = cut([Call::RemoveConnection(0, RIGHT), Call::RemoveConnection(3, RIGHT)]);
+    [(open_side, OPEN_SIDE), (border, BORDER), (ring, RING)].map(|(mut list, number)| {
+        for (s, t) in places(&ON_MAP).chain(places(&BEYOND_MAP)) {
+            assert_eq!(list.call(MapCall::LentSetPoint { s, t }).number(), number);
+        }
+        for (s, t) in places(&ON_MAP) {
+            assert_eq!(list.call(MapCall::SetPoint { s, t }).number(), number);
+        }
+        ask_beyond(&mut list, SET_POINTS[0].0);
+        assert!(list.maps.reading.kept.is_none());
+        list
+    })
+}
+
+/// Borders with which places on the map have no weight: with 0.0 those at its edges, and with an infinite one or NaN all. Off it a set-point is 20.
+fn places_of_border(border: f64) -> MapList {
+    let mut list = MapList::new(SQUARE, border);
+    for (set_point, _) in SET_POINTS {
+        for (s, t) in places(&ON_MAP) {
+            let number = list.call(set_point(s, t)).number();
+            assert!([0, NO_WEIGHT].contains(&number));
+            let at_edge = [s, t].iter().any(|x| *x == 0.0 || *x == 1.0);
+            assert!(number == NO_WEIGHT || border.is_finite() && !(border == 0.0 && at_edge));
+            assert!(number == 0 || !(border == 0.0 && (s, t) == (0.5, 0.5)));
+        }
+        ask_beyond(&mut list, set_point);
+    }
+    list
 }
 
 const AT: (f64, f64) = (0.25, 0.75);
@@ -662,7 +824,8 @@ fn no_knots() -> MapList {
     }
     let (s, t) = (0.25, 0.75);
     let cell = MapCall::CellPoints { cell: 119 };
-    for call in [MapCall::Generate, cell, MapCall::Evaluate { s, t }, MapCall::Lend { s, t }, MapCall::SetPoint { s, t }] {
+    let values = [MapCall::Evaluate { s, t }, MapCall::Lend { s, t }, MapCall::SetPoint { s, t }, MapCall::LentSetPoint { s, t }];
+    for call in [MapCall::Generate, cell].into_iter().chain(values) {
         assert_eq!(list.call(call).number(), BORDER);
     }
     list.call(MapCall::Openings);
@@ -866,6 +1029,7 @@ pub fn write(seed: u64) {
         some_rays(&mut list, &mut random);
         lists.push(list);
     }
+    lists.extend(set_points(&mut random));
     let mut out = Bytes::default();
     lists.iter().for_each(|list| out.0.extend(encoded(list)));
     print_table(&lists);

@@ -4,7 +4,7 @@
 use crate::basis_cases;
 use crate::bound;
 use crate::compare::Tally;
-use crate::draw::{MapList, Plan, Pulls, Withdrawing, full_map, map, parameter};
+use crate::draw::{BEYOND_MAP, MapList, Plan, Pulls, Withdrawing, full_map, map, parameter, place, places};
 use crate::file_cases;
 use crate::map_calls::MapCall;
 use crate::map_cases;
@@ -134,10 +134,20 @@ fn some_values(list: &mut MapList, random: &mut Random) {
         list.call(match value % 4 {
             0 => MapCall::Lend { s, t },
             1 => MapCall::SetPoint { s, t },
+            2 => MapCall::LentSetPoint { s, t },
             _ => MapCall::Evaluate { s, t },
         });
         map_cases::some_cells(list, random, value % 2);
     }
+}
+
+/// An insertion, which drops the knots where it is done, and a set-point off the map. The list ends with it, so that the knots kept after it show.
+fn end_beyond(list: &mut MapList, random: &mut Random) {
+    let (con, direction) = place(random, &list.maps);
+    list.insert(random, con, direction, 0.5);
+    let beyond: Vec<(f64, f64)> = places(&BEYOND_MAP).collect();
+    let (s, t) = random.of(&beyond);
+    list.call(random.of(&[MapCall::SetPoint { s, t }, MapCall::LentSetPoint { s, t }]));
 }
 
 fn map_list(random: &mut Random, place: usize) -> MapList {
@@ -153,7 +163,11 @@ fn map_list(random: &mut Random, place: usize) -> MapList {
     let edits = random.of(&[3, 6, 10, 20, 40]);
     let plan = Plan { edits: random.below(edits) + 1, questions: true, direct_calls: place % 5 == 0, withdrawing, pulls };
     let list = map(random, plan);
-    probed(list, random)
+    let mut list = probed(list, random);
+    if random.one_in(4) {
+        end_beyond(&mut list, random);
+    }
+    list
 }
 
 /// What a map list that the program calls wrong is, made small.

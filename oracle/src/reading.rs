@@ -18,6 +18,7 @@ pub const FULL: u8 = 10;
 pub const NO_POINT: u8 = 11;
 pub const NO_WEIGHT: u8 = 15;
 pub const PULL: u8 = 17;
+pub const OFF_MAP: u8 = 20;
 
 pub const CAPACITY: usize = 128;
 
@@ -378,11 +379,14 @@ pub struct Value {
     pub weight: f64,
 }
 
-impl Value {
-    /// The set-point: refused unless the weight is positive and finite.
-    pub fn set_point(self) -> Refused<Value> {
-        if self.weight > 0.0 && self.weight < f64::INFINITY { Ok(self) } else { Err(NO_WEIGHT) }
+/// The set-point at (s, t). Its value is asked for only where both are from 0 to 1, the ends included: −0.0 is 0, a NaN is outside (Ticket 8 of
+/// document 02). It is refused unless its weight is positive and finite.
+pub fn set_point(s: f64, t: f64, value: impl FnOnce() -> Refused<Value>) -> Refused<Value> {
+    if ![s, t].iter().all(|x| (0.0..=1.0).contains(x)) {
+        return Err(OFF_MAP);
     }
+    let value = value()?;
+    if value.weight > 0.0 && value.weight < f64::INFINITY { Ok(value) } else { Err(NO_WEIGHT) }
 }
 
 /// A map: its points, their positions and pulls, which are listed, and the knots kept.

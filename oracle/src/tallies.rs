@@ -1,8 +1,9 @@
 //! How often something occurs, as the tables print it.
+use crate::reading::OFF_MAP;
 
-/// How often each number is answered.
+/// How often each number is answered, of which the last is 20.
 #[derive(Clone, Copy, Default)]
-pub struct Numbers([usize; 20]);
+pub struct Numbers([usize; OFF_MAP as usize + 1]);
 
 impl Numbers {
     pub fn count(&mut self, number: u8) {
