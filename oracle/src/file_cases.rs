@@ -1,15 +1,15 @@
 //! Map files of both versions, each with the whole text that the program prints of it and what the C calls answer at some places and cells.
 use crate::bytes::Bytes;
 use crate::compare::Withdrawn;
-use crate::draw::{MapList, Plan, Pulls, RING_PREFIXES, Withdrawing, cell, evaluation, full_map, map, position};
+use crate::draw::{BEYOND_MAP, MapList, ON_MAP, Plan, Pulls, RING_PREFIXES, Withdrawing, cell, evaluation, full_map, map, places, position};
 use crate::map_calls::{MapAnswer, MapCall, put_cell};
 use crate::map_cases::{AROUND_TWICE, AT_THE_CAPS, SQUARE, WITHDRAWN};
 use crate::map_file::{
-    CELL_BYTES, COUNT_BYTES, EDIT_BYTES, Edit, HEAD_BYTES, MOST_EDITS, MapFile, Run, SAMPLES, VALUE_BYTES, VERSIONS, bytes_of,
-    host_answer, host_cell, read, run, sample, text,
+    CELL_BYTES, COUNT_BYTES, EDIT_BYTES, Edit, HEAD_BYTES, HEADING, LENGTH, MOST_EDITS, MapFile, Run, SAMPLES, SHORT, VALUE_BYTES,
+    VERSION, VERSIONS, bytes_of, host_answer, host_cell, read, run, sample, text,
 };
 use crate::random::Random;
-use crate::reading::{BORDER, CAPACITY, DOWN, FULL, Insertion, LEFT, NO_WEIGHT, OPEN_SIDE, RIGHT, RING, TORN, UP};
+use crate::reading::{BORDER, CAPACITY, DOWN, FULL, Insertion, LEFT, NO_WEIGHT, OFF_MAP, OPEN_SIDE, RIGHT, RING, TORN, UP};
 use crate::tallies::{Numbers, Words};
 
 /// How many are drawn of version 1 and of version 2.
@@ -380,6 +380,49 @@ fn turned((point, direction, ratio): (u8, usize, f64), turns: usize) -> (u8, usi
     (corner(point), (direction + 3 * turns) % 4, ratio)
 }
 
+/// Files that are asked for set-points at the edges of the map and off it, each with a number that they answer on it: maps with values, the second after a
+/// torn edit; one without weight at the map's edges; maps whose evaluation is refused; and refused files.
+fn edge_files(random: &mut Random, version: u8) -> Vec<(Vec<u8>, u8)> {
+    let plain = square(random, version, &[(0, RIGHT, 0.5)]);
+    let torn = square(random, version, &[(0, RIGHT, 0.5), (0, RIGHT, 0.0)]);
+    let without_border = MapFile { border: 0.0, ..plain.clone() };
+    let ring = square(random, version, RING_PREFIXES[1]);
+    let maps = [(plain, 0), (torn, 0), (without_border, NO_WEIGHT), (ring, RING)];
+    let mut files: Vec<_> = maps.iter().map(|(file, number)| (bytes_of(file), *number)).collect();
+    files.extend(refused_evaluations(random, version).into_iter().zip([BORDER, OPEN_SIDE]));
+    let valid = files[0].0.clone();
+    let heading = COUNT_BYTES + HEAD_BYTES + 1;
+    files.push((valid[1..].to_vec(), LENGTH));
+    files.extend([(with_byte(&valid, COUNT_BYTES, 3), VERSION), (with_byte(&valid, heading, 4), HEADING)]);
+    files
+}
+
+/// Calls for set-points at the places of some parameters, each with the least room that there may be.
+fn at_places(parameters: &[f64]) -> Vec<(u64, u64, usize)> {
+    places(parameters).map(|(s, t)| (s.to_bits(), t.to_bits(), VALUE_BYTES)).collect()
+}
+
+/// Such files asked on the map, at its edges and beside them, off it, also in NaNs of every pattern, and on it and off it with a buffer that is too short.
+fn at_edges(random: &mut Random, version: u8) -> Vec<Case> {
+    let on_map = at_places(&ON_MAP);
+    let beyond = at_places(&[&BEYOND_MAP[..], &NANS.map(f64::from_bits)].concat());
+    let short: Vec<_> = [on_map[0], beyond[0]].iter().flat_map(|&(s, t, room)| [(s, t, 0), (s, t, room - 1)]).collect();
+    let mut cases = Vec::new();
+    for (file, number) in edge_files(random, version) {
+        let numbers = |calls: &[(u64, u64, usize)]| -> Vec<u8> {
+            calls.iter().map(|&(s, t, room)| host_answer(&file, s, t, room).err().unwrap_or(0)).collect()
+        };
+        let on_it = numbers(&on_map);
+        assert!(on_it.contains(&number) && !on_it.contains(&OFF_MAP));
+        assert_eq!(numbers(&beyond), vec![read(&file).err().unwrap_or(OFF_MAP); beyond.len()]);
+        assert_eq!(numbers(&short), vec![SHORT; short.len()]);
+        let calls = [&on_map[..], &beyond, &short].concat();
+        let cells = cells(random, &file);
+        cases.push(Case { kind: "edges of the map", file, calls, cells });
+    }
+    cases
+}
+
 /// Cells and buffers for the C call for a cell: two drawn cells, one of a file that is refused, and at times a buffer that is too short.
 fn cells(random: &mut Random, file: &[u8]) -> Vec<(u8, usize)> {
     let mut cells = match read(file) {
@@ -514,10 +557,11 @@ pub fn write(seed: u64) {
     let mut random = Random::new(seed);
     let mut cases: Vec<Case> = VERSIONS.iter().flat_map(|version| cases_of(&mut random, *version, &KINDS)).collect();
     cases.extend(cases_of(&mut random, 2, &[("alike but for the version", twins)]));
-    // Outside the map of no edits, which stands first, there is no weight.
-    let outside = (5.0f64.to_bits(), 0.5f64.to_bits(), VALUE_BYTES);
-    assert_eq!(host_answer(&cases[0].file, outside.0, outside.1, outside.2), Err(NO_WEIGHT));
-    cases[0].calls.push(outside);
+    // The first file is that of no edits, of which document 01 has a reading off the map.
+    let beyond = (5.0f64.to_bits(), 0.5f64.to_bits(), VALUE_BYTES);
+    assert_eq!(host_answer(&cases[0].file, beyond.0, beyond.1, beyond.2), Err(OFF_MAP));
+    cases[0].calls.push(beyond);
+    cases.extend(VERSIONS.iter().flat_map(|version| at_edges(&mut random, *version)));
     let mut out = Bytes::default();
     cases.iter().for_each(|case| out.0.extend(encoded(case)));
     print_table(&cases);

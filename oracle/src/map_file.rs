@@ -237,7 +237,7 @@ pub fn host_cell(file: &[u8], cell: u8, room: usize) -> Refused<Cell> {
     answer
 }
 
-/// What the C call for a set-point answers: 16 before all else, then the file's refusal, then the evaluation's.
+/// What the C call for a set-point answers: 16 before all else, then the file's refusal, then those of the set-point: 20, the evaluation's, 15.
 pub fn host_answer(file: &[u8], s: u64, t: u64, room: usize) -> Refused<[u64; 4]> {
     if room < VALUE_BYTES {
         return Err(SHORT);
