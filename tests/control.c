@@ -111,8 +111,10 @@ static size_t number(const char *call)
     return answered;
 }
 
+/* A call at a place: its number, and after 0 a value. */
 static void value(const char *call)
 {
+    skip(16);
     if (number(call) == 0) {
         answer(8, "%s: x", call);
         answer(8, "%s: y", call);
@@ -209,7 +211,6 @@ static void map_call(size_t *made)
             row("knots");
         break;
     case 3:
-        skip(16);
         value("evaluation");
         break;
     case 4:
@@ -232,11 +233,9 @@ static void map_call(size_t *made)
         break;
     }
     case 6:
-        skip(16);
         value("lent value");
         break;
     case 7:
-        skip(16);
         value("set-point");
         break;
     case 8:
@@ -259,6 +258,9 @@ static void map_call(size_t *made)
     case 11:
         skip(9);
         number("set_pull");
+        break;
+    case 12:
+        value("lent set-point");
         break;
     default: {
         if (kind < 16)
@@ -404,9 +406,11 @@ static const char *const map_parts[] = {
     "evaluation 9: number", "evaluation: x", "evaluation: y", "evaluation: z", "evaluation: weight", "all knots 0: number",
     "all knots 3: number", "all knots 4: number", "all knots 9: number", "openings: count", "openings: point", "openings: direction 0",
     "openings: direction 1", "openings: direction 2", "openings: direction 3", TWO_OPENINGS, "lent value 0: number", "lent value 4: number",
-    "lent value: x", "lent value: weight", "set-point 0: number", "set-point 4: number", "set-point 15: number", "set-point: x",
-    "set-point: weight", "cell 0: number", "cell 3: number", "cell 4: number", "cell 9: number", "cell: first word", "cell: second word",
-    "cell: count", "counts: points made", "counts: points listed", "counts: links", "counts: borders", "set_pull 0: number",
+    "lent value: x", "lent value: weight", "set-point 0: number", "set-point 3: number", "set-point 4: number", "set-point 9: number",
+    "set-point 15: number", "set-point 20: number", "set-point: x", "set-point: weight", "lent set-point 0: number",
+    "lent set-point 3: number", "lent set-point 4: number", "lent set-point 9: number", "lent set-point 15: number",
+    "lent set-point 20: number", "lent set-point: x", "lent set-point: weight", "cell 0: number", "cell 3: number", "cell 4: number",
+    "cell 9: number", "cell: first word", "cell: second word", "cell: count", "counts: points made", "counts: points listed", "counts: links", "counts: borders", "set_pull 0: number",
     "set_pull 11: number", "set_pull 17: number", "point made 0: number",
     "connect 0: number", "remove_connection 0: number", "remove_edge_condition 0: number", "set_edge_con_weight 0: number",
     "set_knot_coordinates 0: number", "walk 0: number", "walk: point", "walk: moves", "walk: sum", "points made", "side 0: kind 0",
@@ -425,8 +429,8 @@ static const char *const file_parts[] = {
     "report of version 2: file refused 12", "report of version 2: file refused 14",
     "C set-point 0: number", "C set-point 0: buffer", "C set-point 3: number", "C set-point 4: number", "C set-point 9: number", "C set-point 12: number",
     "C set-point 13: number", "C set-point 14: number", "C set-point 15: number", "C set-point 15: buffer", "C set-point 16: number", "C set-point 16: buffer",
-    "C set-point: how many", "C cell 0: number", "C cell 0: buffer", "C cell 3: number", "C cell 4: number", "C cell 9: number",
-    "C cell 9: buffer", "C cell 12: number", "C cell 13: number", "C cell 14: number", "C cell 16: number", "C cell 16: buffer",
+    "C set-point 20: number", "C set-point 20: buffer", "C set-point: how many", "C cell 0: number", "C cell 0: buffer",
+    "C cell 3: number", "C cell 4: number", "C cell 9: number", "C cell 9: buffer", "C cell 12: number", "C cell 13: number", "C cell 14: number", "C cell 16: number", "C cell 16: buffer",
     "C cell: how many", "length", "length of the file", "length of the text", NULL
 };
 
