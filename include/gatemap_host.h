@@ -87,7 +87,8 @@ enum gatemap_answer {
     GATEMAP_SHORT = 16,     /* a buffer under GATEMAP_VALUE_BYTES, GATEMAP_CELL_BYTES or GATEMAP_MAP_NUMBER_BYTES, by the call */
     GATEMAP_PULL = 17,      /* a pull that is negative, infinite or not a number */
     GATEMAP_CLASH = 18,     /* a season with two windows that hold in some common minute, or with one that holds in none */
-    GATEMAP_SHUT = 19       /* a minute at which no window of the season holds */
+    GATEMAP_SHUT = 19,      /* a minute at which no window of the season holds */
+    GATEMAP_OFF_MAP = 20    /* s or t that is not from 0 to 1 */
 };
 
 /*

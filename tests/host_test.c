@@ -5,6 +5,9 @@
  * also with count or length one off; two edits of which the first is torn; maps with a line of 124 points on the lower edge, in version 2 among 124
  * withdrawn edits; and those of CASES, which is crates/file_replay/data/cases (oracle/README.md has its format).
  * How a call is made and looked at is said in fenced_calls.h.
+ * Set-points are asked for on the map, at its edges, beside them and off it, by the bits of s and t: every pair of some, and pairs drawn. Where 20 is due
+ * is told by the bits alone. Off the map every stored file is asked, and files with several things wrong at once, with buffers that are too short and
+ * others. On the map the sample must have the value that the recursion of Cox and de Boor gives, but for rounding.
  * A cell's words are held against the stored ones or, of a file made here, against those that the outer knots of its points give; the knots are
  * worked out here, from document 01. Asked of one place, the two calls must be refused alike, and a place that no point reaches has no weight, unless
  * the border is NaN.
@@ -44,6 +47,7 @@ enum { STAYS = 1, WITHDRAWS = 2 };
 static const uint64_t HALF = 0x3fe0000000000000;
 static const uint64_t ONE = 0x3ff0000000000000;
 static const uint64_t TWO = 0x4000000000000000;
+static const uint64_t SIGN = 0x8000000000000000;
 
 static const double MILLIONTH = 1.0 / 1000000.0;
 
@@ -62,7 +66,13 @@ static struct question at_cell(uint8_t cell)
     return (struct question){.of = CELL, .cell = cell};
 }
 
-/* The refusal that the buffer or the file brings by itself, or 0. */
+/* Whether bits are those of a double from 0 to 1: none of these has greater bits than 1.0, but for -0.0, which is the sign alone. */
+static int from_0_to_1(uint64_t bits)
+{
+    return bits <= ONE || bits == SIGN;
+}
+
+/* The refusal that the buffer, the file or the place brings by itself, or 0. */
 static uint64_t refusal_of(const uint8_t *bytes, size_t length, struct question question, size_t room)
 {
     if (room < answer_bytes(question))
@@ -76,10 +86,12 @@ static uint64_t refusal_of(const uint8_t *bytes, size_t length, struct question 
     for (size_t at = EDITS_AT; at < length; at += EDIT_BYTES)
         if (bytes[at + 1] > 3)
             return GATEMAP_HEADING;
+    if (question.of == SET_POINT && !(from_0_to_1(question.s) && from_0_to_1(question.t)))
+        return GATEMAP_OFF_MAP;
     return GATEMAP_DONE;
 }
 
-/* Whether a number may be answered where neither the buffer nor the file is refused. */
+/* Whether a number may be answered where neither the buffer nor the file nor the place is refused. */
 static int from_evaluation(uint64_t number, struct question question)
 {
     return number == GATEMAP_DONE || number == GATEMAP_OPEN_SIDE || number == GATEMAP_BORDER || number == GATEMAP_RING ||
@@ -596,6 +608,132 @@ static void stored_files(const char *path, void each(const struct stored *))
     fclose(cases);
 }
 
+/* ---- places on the map and off it */
+
+enum {
+    MAGNITUDES = 8,
+    BESIDE = 3,
+    EDGES = 2 * BESIDE * MAGNITUDES,
+    PLACES = EDGES * EDGES,
+    PLACES_DRAWN = 100000,
+    ORDER = 4
+};
+
+/*
+ * Bits of s and t: some doubles, those at the edges of the map among them, with either sign, and the bits before and behind theirs. Before those of 0.0 and
+ * -0.0, and behind those of the infinities, stand NaNs.
+ */
+static uint64_t edge(int k)
+{
+    const uint64_t magnitudes[MAGNITUDES] = {0, 0x0010000000000000, HALF, ONE, TWO, 0x4014000000000000, 0x7ff0000000000000, 0x7ff8000000000000};
+    return (magnitudes[k / (2 * BESIDE)] | (k % 2 ? SIGN : 0)) + (uint64_t)(k / 2 % BESIDE) - 1;
+}
+
+/* Every pair of them. */
+static struct question at_edges(int place)
+{
+    return at_place(edge(place / EDGES), edge(place % EDGES));
+}
+
+/* Bits drawn, the same in every run (the generator of Ticket 9 of document 02); of a double from 0 to 1 where that is asked for. */
+static uint64_t drawn_bits(int on_map)
+{
+    static uint64_t drawn = 20030727;
+    drawn ^= drawn << 13;
+    drawn ^= drawn >> 7;
+    drawn ^= drawn << 17;
+    return on_map ? drawn % (ONE + 1) : drawn;
+}
+
+/* The basis function of an order, by the recursion of Cox and de Boor: a term with a zero denominator is 0. */
+static double basis(const double *knots, int order, double u)
+{
+    if (order == 1)
+        return knots[0] <= u && u < knots[1];
+    double rises = knots[order - 1] - knots[0], falls = knots[order] - knots[1];
+    return (rises == 0 ? 0 : (u - knots[0]) / rises * basis(knots, order - 1, u)) +
+           (falls == 0 ? 0 : (knots[order] - u) / falls * basis(knots + 1, order - 1, u));
+}
+
+/* The sums one way of the sample's basis functions: of both corners, and of the far one. */
+static void sums(double u, double *both, double *far)
+{
+    static const double near_knots[ORDER + 1] = {-1, -1, 0, 1, 2}, far_knots[ORDER + 1] = {-1, 0, 1, 2, 2};
+    *far = basis(far_knots, ORDER, u);
+    *both = basis(near_knots, ORDER, u) + *far;
+}
+
+/* A set-point of the sample: everywhere on the map it has a weight, and what the recursion gives, but for rounding. */
+static void sample_place(size_t length, struct question place)
+{
+    struct answer answer = call(file, length, place, GATEMAP_VALUE_BYTES);
+    if (answer.number == GATEMAP_OFF_MAP)
+        return;
+    double s = float_of(place.s), t = float_of(place.t), across, right, up, upper;
+    sums(s, &across, &right);
+    sums(t, &up, &upper);
+    const double due[] = {right / across, upper / up, upper / up, across * up};
+    int near = answer.number == GATEMAP_DONE;
+    for (int i = 0; i < 4; i++)
+        near &= fabs(float_at(answer.bytes + 8 * i) - due[i]) < 1e-12;
+    check(near, "the sample at (%a, %a): %d", s, t, (int)answer.number);
+}
+
+static void sample_places(int version)
+{
+    size_t length = sample(file, version, 1);
+    for (int place = 0; place < PLACES; place++)
+        sample_place(length, at_edges(place));
+    for (int i = 0; i < PLACES_DRAWN; i++) {
+        uint64_t s = drawn_bits(i & 1), t = drawn_bits(i & 2);
+        sample_place(length, at_place(s, t));
+    }
+}
+
+/* Every mixture of a wrong length, version and direction, at every place, with buffers that are too short and others. */
+static void mixtures(int version)
+{
+    enum { LENGTH = 1, VERSION = 2, DIRECTION = 4, ALL = LENGTH | VERSION | DIRECTION };
+    static const size_t rooms[] = {0, GATEMAP_VALUE_BYTES - 1, GATEMAP_VALUE_BYTES, MOST_ROOM};
+    for (int mixture = 0; mixture <= ALL; mixture++) {
+        size_t length = sample(file, version, 1) - (mixture & LENGTH ? 1 : 0);
+        if (mixture & VERSION)
+            file[VERSION_AT] = WITHDRAWS + 1;
+        if (mixture & DIRECTION)
+            file[EDITS_AT + 1] = 4;
+        for (int place = 0; place < PLACES; place++)
+            for (size_t i = 0; i < sizeof rooms / sizeof rooms[0]; i++)
+                call(file, length, at_edges(place), rooms[i]);
+    }
+}
+
+/* Which numbers a stored file that was asked off the map has in the middle. */
+static int asked_beyond[GATEMAP_OFF_MAP + 1];
+
+/* A stored file across the map and off it, and upwards so. On the map it has a value or no weight, or else one refusal everywhere. */
+static void stored_places(const struct stored *stored)
+{
+    uint64_t middle = call(stored->bytes, stored->length, at_place(HALF, HALF), GATEMAP_VALUE_BYTES).number;
+    int evaluated = middle == GATEMAP_DONE || middle == GATEMAP_NO_WEIGHT;
+    for (int k = 0; k < 2 * EDGES; k++) {
+        struct question place = k % 2 ? at_place(edge(k / 2), HALF) : at_place(HALF, edge(k / 2));
+        uint64_t number = call(stored->bytes, stored->length, place, GATEMAP_VALUE_BYTES).number;
+        int alike = evaluated ? number == GATEMAP_DONE || number == GATEMAP_NO_WEIGHT : number == middle;
+        check(alike || number == GATEMAP_OFF_MAP, "stored file %lu: %d, and %d in the middle", files, (int)number, (int)middle);
+    }
+    if (middle <= GATEMAP_OFF_MAP)
+        asked_beyond[middle] = 1;
+}
+
+/* Files of every number before and behind 20 in the order must have been among them. */
+static void every_number_beyond(void)
+{
+    static const int numbers[] = {GATEMAP_DONE,    GATEMAP_OPEN_SIDE, GATEMAP_BORDER,  GATEMAP_RING,
+                                  GATEMAP_LENGTH, GATEMAP_VERSION,   GATEMAP_HEADING, GATEMAP_NO_WEIGHT};
+    for (size_t i = 0; i < sizeof numbers / sizeof numbers[0]; i++)
+        check(asked_beyond[numbers[i]], "no stored file has %d in the middle", numbers[i]);
+}
+
 /* ---- both calls at one place */
 
 /*
@@ -652,8 +790,12 @@ static void *set_points(void *cases)
     for (int version = STAYS; version <= WITHDRAWS; version++) {
         sample_values(version);
         torn_value(version);
+        sample_places(version);
+        mixtures(version);
     }
     stored_files(cases, stored_set_points);
+    stored_files(cases, stored_places);
+    every_number_beyond();
     return NULL;
 }
 
