@@ -75,6 +75,7 @@ static const char *map_words(uint64_t answer)
     case GATEMAP_HEADING: return "an edit's direction is above 3";
     case GATEMAP_NO_WEIGHT: return "the map has no weight there";
     case GATEMAP_SHORT: return "the buffer is too short";
+    case GATEMAP_OFF_MAP: return "s or t is not from 0 to 1";
     default: return "an answer that no call on a map file gives";
     }
 }
