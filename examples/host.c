@@ -1,5 +1,5 @@
 /*
- * host FILE S T: the gate opening that a map file gives at (S, T).
+ * host FILE S T: the gate opening that a map file gives at (S, T), both from 0 to 1.
  * host FILE CELL: the points of its map that reach a cell, 0 to 255.
  *
  *     rt staticlib gatemap_host

@@ -1,6 +1,6 @@
 /*
- * season SEASON MINUTE S T MAP...: the gate opening at (S, T) by the map that is to be used at a minute of the season. The maps have numbers from 0, as they
- * are given.
+ * season SEASON MINUTE S T MAP...: the gate opening at (S, T), both from 0 to 1, by the map that is to be used at a minute of the season. The maps have
+ * numbers from 0, as they are given.
  *
  *     rt staticlib gatemap_host
  *     cc -Iinclude -o season examples/season.c target/staticlib/libgatemap_host.a

@@ -194,9 +194,10 @@ fn worked_examples(random: &mut Random) -> Vec<MapList> {
     lists
 }
 
-/// The set-point by the call on a map, and by the one on the map lent, which builds the knots where none are kept before it looks at the place.
-const SET_POINTS: [(fn(f64, f64) -> MapCall, bool); 2] =
-    [(|s, t| MapCall::SetPoint { s, t }, false), (|s, t| MapCall::LentSetPoint { s, t }, true)];
+type SetPoint = fn(f64, f64) -> MapCall;
+
+/// The call on a map, and the one on the map lent, each with whether the map is lent: that builds the knots where none are kept, before the place is looked at.
+const SET_POINTS: [(SetPoint, bool); 2] = [(|s, t| MapCall::SetPoint { s, t }, false), (|s, t| MapCall::LentSetPoint { s, t }, true)];
 
 /// Lists with set-points on the map, at its edges, beside them and off it.
 fn set_points(random: &mut Random) -> Vec<MapList> {
@@ -204,7 +205,7 @@ fn set_points(random: &mut Random) -> Vec<MapList> {
     for (set_point, is_lent) in SET_POINTS {
         lists.extend([none_kept_beyond(set_point, is_lent), kept_beyond(random, set_point)]);
         lists.extend([cells_built_beyond(random, set_point, is_lent), cells_kept_beyond(random, set_point)]);
-        lists.extend([no_weight_beyond(set_point, is_lent)]);
+        lists.push(no_weight_beyond(set_point, is_lent));
     }
     lists.extend(refused_beyond(random));
     lists.extend([0.0, -0.25, f64::INFINITY, f64::NAN].map(places_of_border));
@@ -235,14 +236,14 @@ fn every_place(random: &mut Random) -> MapList {
 }
 
 /// Asks for set-points off the map, which are all refused.
-fn ask_beyond(list: &mut MapList, set_point: fn(f64, f64) -> MapCall) {
+fn ask_beyond(list: &mut MapList, set_point: SetPoint) {
     for (s, t) in places(&BEYOND_MAP) {
         assert_eq!(list.call(set_point(s, t)).number(), OFF_MAP);
     }
 }
 
 /// No knots are kept before set-points off the map. The list ends with them: none are kept then, unless the map was lent.
-fn none_kept_beyond(set_point: fn(f64, f64) -> MapCall, is_lent: bool) -> MapList {
+fn none_kept_beyond(set_point: SetPoint, is_lent: bool) -> MapList {
     let mut list = square();
     ask_beyond(&mut list, set_point);
     assert_eq!(list.maps.reading.kept.is_some(), is_lent);
@@ -250,7 +251,7 @@ fn none_kept_beyond(set_point: fn(f64, f64) -> MapCall, is_lent: bool) -> MapLis
 }
 
 /// The knots kept are those of before a torn insertion, and built anew they are others. The list ends with set-points off the map, which leave them.
-fn kept_beyond(random: &mut Random, set_point: fn(f64, f64) -> MapCall) -> MapList {
+fn kept_beyond(random: &mut Random, set_point: SetPoint) -> MapList {
     let mut list = square();
     assert_eq!(list.insert(random, 0, RIGHT, 0.5).number(), 0);
     value_at(&mut list, AT);
@@ -270,7 +271,7 @@ const REACHED_BY_CORNER: u8 = 15;
 const AFTER_TORN: Cell = Cell { words: [30, 0], count: 4 };
 
 /// Set-points off the map while no knots are kept, and then a torn insertion: knots and index are those of after it, unless the map was lent before.
-fn cells_built_beyond(random: &mut Random, set_point: fn(f64, f64) -> MapCall, is_lent: bool) -> MapList {
+fn cells_built_beyond(random: &mut Random, set_point: SetPoint, is_lent: bool) -> MapList {
     let mut list = square();
     assert_eq!(list.insert(random, 0, RIGHT, 0.5).number(), 0);
     ask_beyond(&mut list, set_point);
@@ -281,7 +282,7 @@ fn cells_built_beyond(random: &mut Random, set_point: fn(f64, f64) -> MapCall, i
 }
 
 /// The index kept is that of before a torn insertion, also after set-points off the map, and built anew it is another.
-fn cells_kept_beyond(random: &mut Random, set_point: fn(f64, f64) -> MapCall) -> MapList {
+fn cells_kept_beyond(random: &mut Random, set_point: SetPoint) -> MapList {
     let mut list = square();
     assert_eq!(list.insert(random, 0, RIGHT, 0.5).number(), 0);
     let before = reached(&mut list, REACHED_BY_CORNER);
@@ -294,7 +295,7 @@ fn cells_kept_beyond(random: &mut Random, set_point: fn(f64, f64) -> MapCall) ->
 }
 
 /// A map without weight: off it a set-point is 20, and on it 15. The list ends with the first 15, after which the knots are kept.
-fn no_weight_beyond(set_point: fn(f64, f64) -> MapCall, is_lent: bool) -> MapList {
+fn no_weight_beyond(set_point: SetPoint, is_lent: bool) -> MapList {
     let mut list = square();
     for point in 0..4 {
         assert_eq!(list.set_pull(point, 0.0), 0);
