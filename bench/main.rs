@@ -41,6 +41,8 @@ unsafe extern "C" {
     fn bench_openings(edits: *const u8, length: usize, repeats: u64) -> u64;
     fn bench_settings(edits: *const u8, length: usize, repeats: u64) -> u64;
     fn bench_reports(file: *const u8, length: usize, repeats: u64) -> u64;
+    fn bench_set_points(file: *const u8, length: usize, repeats: u64) -> u64;
+    fn bench_lent_set_points(file: *const u8, length: usize, repeats: u64) -> u64;
     fn bench_evaluations(edits: *const u8, length: usize, repeats: u64) -> u64;
     fn bench_lent_evaluations(edits: *const u8, length: usize, repeats: u64) -> u64;
     fn bench_rays(edits: *const u8, length: usize, repeats: u64) -> u64;
@@ -184,11 +186,21 @@ fn any_edits() -> Vec<Edit> {
     (0..FILE_EDITS).map(|_| edit()).collect()
 }
 
-/// The set-point of a file at (0.5, 0.5), so many times.
-unsafe extern "C" fn files(file: *const u8, length: usize, repeats: u64) -> u64 {
-    let half = 0.5f64.to_bits();
+/// The set-point of a file at (s, 0.5), so many times.
+unsafe fn set_points(file: *const u8, length: usize, s: f64, repeats: u64) -> u64 {
+    let (s, t) = (s.to_bits(), 0.5f64.to_bits());
     let mut out = [0; 32];
-    (0..repeats).map(|_| unsafe { gatemap_set_point(file, length, half, half, out.as_mut_ptr(), out.len()) } + out[7] as u64).sum()
+    (0..repeats).map(|_| unsafe { gatemap_set_point(file, length, s, t, out.as_mut_ptr(), out.len()) } + out[7] as u64).sum()
+}
+
+/// The same in the middle of the map.
+unsafe extern "C" fn files(file: *const u8, length: usize, repeats: u64) -> u64 {
+    unsafe { set_points(file, length, 0.5, repeats) }
+}
+
+/// The same off the map.
+unsafe extern "C" fn files_off_map(file: *const u8, length: usize, repeats: u64) -> u64 {
+    unsafe { set_points(file, length, 5.0, repeats) }
 }
 
 /// The points of a cell of a file, of one cell after the other.
@@ -314,8 +326,13 @@ fn main() {
         line_alone(&format!("counts, {points} points"), 20000, &file, bench_counts, of_evaluation);
         line_alone(&format!("openings listed, {points} points"), 20000, &file, bench_openings, of_evaluation);
         line_alone(&format!("set_pull, map by value, {points} points"), 20000, &file, bench_settings, of_evaluation);
+        let map = map_file(1, &edits);
+        line_alone(&format!("set-point with knots kept, map by value, {points} points"), 20000, &map, bench_set_points, of_evaluation);
         let name = format!("evaluation with knots kept, over lent knots, {points} points");
-        line(&name, 1.0, 20000, &edits, &file, bench_lent_evaluations, locks::evaluations, cells::evaluations);
+        let lent = line(&name, 1.0, 20000, &edits, &file, bench_lent_evaluations, locks::evaluations, cells::evaluations);
+        line_alone(&format!("set-point over lent knots, {points} points"), 20000, &map, bench_lent_set_points, |time| {
+            format!("{:.2} of the evaluation over lent knots", time / lent)
+        });
         line_pulled(&format!("evaluation with knots kept, pulls set, {points} points"), &file, bench_evaluations);
         line_pulled(&format!("evaluation over lent knots, pulls set, {points} points"), &file, bench_lent_evaluations);
         line(&format!("ray of 2, over lent sides, {points} points"), 1.0, 100000, &edits, &file, bench_rays, locks::rays, cells::rays);
@@ -339,6 +356,7 @@ fn main() {
         let file = map_file(1, &edits);
         let set_point = line(&format!("file of {name}"), 1.0, turns, &edits, &file, files, locks::files, cells::files);
         let of_set_point = |time: f64| format!("{:.2} of its set-point", time / set_point);
+        line_alone(&format!("set-point off the map, file of {name}"), 20 * turns, &file, files_off_map, of_set_point);
         line_alone(&format!("points of a cell, file of {name}"), turns, &file, file_cells, of_set_point);
         line_alone(&format!("report of a file of {name}"), turns, &file, bench_reports, of_set_point);
     }

@@ -2,8 +2,8 @@
  * The gate map, for a C host.
  *
  * Two calls read a map file and draw its map. gatemap_set_point gives the
- * position and the total weight at (s, t); gatemap_cell says which points reach
- * a cell of the map. A third, gatemap_season, reads a season file and says which
+ * position and the total weight at (s, t), both from 0 to 1; gatemap_cell says
+ * which points reach a cell of the map. A third, gatemap_season, reads a season file and says which
  * map is to be used at a minute. Where there is no answer, they say why by a
  * number. Each is proved to do so for every file or season, every place, cell or
  * minute and every buffer (crates/gatemap_host); docs/FORMATS.md has the formats.
@@ -61,9 +61,9 @@ enum {
 };
 
 /*
- * The answer numbers. gatemap_set_point returns 0, 3, 4, 9 or 12 to 16,
- * gatemap_cell one of these other than 15, and gatemap_season 0, 12, 13, 16, 18 or
- * 19. The others are answers of single edits, and of other calls on a map: the
+ * The answer numbers. gatemap_set_point returns 0, 3, 4, 9, 12 to 16 or 20,
+ * gatemap_cell one of these other than 15 and 20, and gatemap_season 0, 12, 13, 16,
+ * 18 or 19. The others are answers of single edits, and of other calls on a map: the
  * calls on a map file pass a refused edit over, and the program `gatemap` prints
  * its number.
  */
@@ -88,7 +88,7 @@ enum gatemap_answer {
     GATEMAP_PULL = 17,      /* a pull that is negative, infinite or not a number */
     GATEMAP_CLASH = 18,     /* a season with two windows that hold in some common minute, or with one that holds in none */
     GATEMAP_SHUT = 19,      /* a minute at which no window of the season holds */
-    GATEMAP_OFF_MAP = 20    /* s or t that is not from 0 to 1 */
+    GATEMAP_OFF_MAP = 20    /* a place off the map: s or t is not from 0 to 1, or not a number */
 };
 
 /*
@@ -100,14 +100,16 @@ enum gatemap_answer {
  *
  * Done, the first 32 bytes of the buffer are x, y, z and the total weight, in
  * this order, each the eight bytes of a double's bits, the most significant
- * first, a NaN as 7ff8000000000000. The weight is then positive and finite.
+ * first, a NaN as 7ff8000000000000. The weight is then positive and finite, and s
+ * and t lie from 0 to 1, both ends included (-0.0 is 0): off the map there is no
+ * set-point, and no edit is run there.
  * Where the file's border weight is 0 or more, and its corners and points lie
  * from 0 to 1 on an axis, so does the position on that axis (docs/THEOREMS.md);
  * else it may be anything, a NaN too.
  *
  * Where several refusals hold, the first in this order is returned: a buffer
- * under 32 bytes 16, the file's 12, 13, 14, the evaluation's 3, 4 or 9, no weight
- * 15.
+ * under 32 bytes 16, the file's 12, 13, 14, a place off the map 20, the
+ * evaluation's 3, 4 or 9, no weight 15.
  */
 uint64_t gatemap_set_point(const uint8_t *file, size_t file_length, uint64_t s_bits, uint64_t t_bits,
                            uint8_t *out, size_t out_length);

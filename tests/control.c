@@ -410,8 +410,8 @@ static const char *const map_parts[] = {
     "set-point 15: number", "set-point 20: number", "set-point: x", "set-point: weight", "lent set-point 0: number",
     "lent set-point 3: number", "lent set-point 4: number", "lent set-point 9: number", "lent set-point 15: number",
     "lent set-point 20: number", "lent set-point: x", "lent set-point: weight", "cell 0: number", "cell 3: number", "cell 4: number",
-    "cell 9: number", "cell: first word", "cell: second word", "cell: count", "counts: points made", "counts: points listed", "counts: links", "counts: borders", "set_pull 0: number",
-    "set_pull 11: number", "set_pull 17: number", "point made 0: number",
+    "cell 9: number", "cell: first word", "cell: second word", "cell: count", "counts: points made", "counts: points listed",
+    "counts: links", "counts: borders", "set_pull 0: number", "set_pull 11: number", "set_pull 17: number", "point made 0: number",
     "connect 0: number", "remove_connection 0: number", "remove_edge_condition 0: number", "set_edge_con_weight 0: number",
     "set_knot_coordinates 0: number", "walk 0: number", "walk: point", "walk: moves", "walk: sum", "points made", "side 0: kind 0",
     "side 1: kind 1", "side 2: kind 2", "side 3: point linked", "side 0: interval", "side 1: weight", "coordinate s", "coordinate t",
@@ -430,8 +430,8 @@ static const char *const file_parts[] = {
     "C set-point 0: number", "C set-point 0: buffer", "C set-point 3: number", "C set-point 4: number", "C set-point 9: number", "C set-point 12: number",
     "C set-point 13: number", "C set-point 14: number", "C set-point 15: number", "C set-point 15: buffer", "C set-point 16: number", "C set-point 16: buffer",
     "C set-point 20: number", "C set-point 20: buffer", "C set-point: how many", "C cell 0: number", "C cell 0: buffer",
-    "C cell 3: number", "C cell 4: number", "C cell 9: number", "C cell 9: buffer", "C cell 12: number", "C cell 13: number", "C cell 14: number", "C cell 16: number", "C cell 16: buffer",
-    "C cell: how many", "length", "length of the file", "length of the text", NULL
+    "C cell 3: number", "C cell 4: number", "C cell 9: number", "C cell 9: buffer", "C cell 12: number", "C cell 13: number",
+    "C cell 14: number", "C cell 16: number", "C cell 16: buffer", "C cell: how many", "length", "length of the file", "length of the text", NULL
 };
 
 static const char *const season_parts[] = {

@@ -1,4 +1,4 @@
--- The C call for a set-point (`gatemap_set_point`): the file, s and t as bits, and a buffer. Refusals in order: a buffer under 32 bytes 16, the file 12, 13, 14, the evaluation 3, 4, 9, no weight 15.
+-- The C call for a set-point (`gatemap_set_point`): the file, s and t as bits, and a buffer. Refusals in order: a buffer under 32 bytes 16, the file 12, 13, 14, off the map 20, the evaluation 3, 4, 9, no weight 15.
 -- With a value the answer is 0, and the first 32 bytes of the buffer receive position and weight, big-endian, a NaN as 7ff8000000000000; the rest of it, and refused all
 -- of it, is untouched.
 use Prim.Native.Nat.{ℕ}
@@ -35,6 +35,6 @@ hostNumber file s t out = evaluationNumber (hostAnswer file s t (length out))
 abbrev pub hostBuffer : List ℕ → ℕ → ℕ → List ℕ → List ℕ
 hostBuffer file s t out = bufferAfter (hostAnswer file s t (length out)) out
 
--- the table of the call, with a buffer of a length: 16, then the file's table: 12, 13, 14, the evaluation's refusal, 15
+-- the table of the call, with a buffer of a length: 16, then the file's table: 12, 13, 14, 20, the evaluation's refusal, 15
 abbrev pub hostTable : List ℕ → ℕ → ℕ → ℕ → Told
 hostTable file s t room = unless 16 (leb valueBytes room) (fileSetPointTable millionth file (ofBits binary64 s) (ofBits binary64 t))

@@ -290,7 +290,7 @@ module _ (one other : Tmesh) (sound : SoundMap one) (sound′ : SoundMap other) 
     set-point-alike : (s t : Float) → valueWithout (setPoint e one s t .answer) ≡ valueWithout (setPoint e other s t .answer)
     unfolding subsOf
     set-point-alike s t =
-        both-set-points e one other s t (λ given given′. valueWithout (given .answer) ≡ valueWithout (given′ .answer))
+        both-set-points e e one other s t (λ given given′. valueWithout (given .answer) ≡ valueWithout (given′ .answer))
         (weighed-told (withKnots e one .outcome) (valueOf own s t) (valueOf own′ s t) (weighs s t)
         ∙ ap (λ (outcome : Outcome). valueWithout (weighed (answerBy outcome (valueOf own′ s t)))) (ready-alike .0))
         refl
@@ -388,7 +388,7 @@ module _ (one other : Tmesh) (sound : SoundMap one) (sound′ : SoundMap other) 
     unfolding subsOf cellPoints
     after-alike (entry (insertion withdraws con d ratio position)) = inserted-alike con d ratio withdraws position _
     after-alike (entry (evaluation s t)) = ready-alike .1
-    after-alike (entry (set-point s t)) = both-set-points e one other s t (λ given given′. Alike (given .map) (given′ .map)) (ready-alike .1) alike
+    after-alike (entry (set-point s t)) = both-set-points e e one other s t (λ given given′. Alike (given .map) (given′ .map)) (ready-alike .1) alike
     after-alike (entry (question cell)) = ready-alike .1
     after-alike (entry (pulling n pull)) = pulled-alike n pull .1
     after-alike generate-knot-vectors = generated-alike .1

@@ -380,7 +380,7 @@ module _ (e : Float) where
         inserted-unseen (isWithdrawn withdraws (result .answer)) position (result .answer) (result .store)
     call-unseen (entry (evaluation s t)) = ready-unseen
     call-unseen (entry (set-point s t)) =
-        both-set-points e map (allUnpulled map) s t (λ given bare. allUnpulled (given .map) ≡ allUnpulled (bare .map)) ready-unseen (same-unpulled map)
+        both-set-points e e map (allUnpulled map) s t (λ given bare. allUnpulled (given .map) ≡ allUnpulled (bare .map)) ready-unseen (same-unpulled map)
     call-unseen (entry (question cell)) = ready-unseen
     call-unseen (entry (pulling n pull)) =
         pulled-case map n pull (λ after. allUnpulled after ≡ allUnpulled map) refl (λ _ _. ap (withPlaces map) (unpulled-repulled (map .mesh .places) n pull))

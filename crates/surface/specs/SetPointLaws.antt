@@ -101,14 +101,14 @@ module _ (e : Float) (map : Tmesh) (s t : Float) where
       by-place true = answer-told (withKnots e map .outcome) (valueOf (withKnots e map .map) s t) ∙ with-knots-told e map (λ own. whereWeightyTable (valueOf own s t))
       by-place false = refl
 
--- of two maps at one place: what holds of both on it, and of both off it, holds of their set-points
-pub both-set-points : (e : Float) (one other : Tmesh) (s t : Float) (Hold : Evaluated → Evaluated → Type 0)
-    → Hold (weighedBy (subsOf e one s t)) (weighedBy (subsOf e other s t))
+-- of two maps at one place, with a closeness each: what holds of both on it, and of both off it, holds of their set-points
+pub both-set-points : (e f : Float) (one other : Tmesh) (s t : Float) (Hold : Evaluated → Evaluated → Type 0)
+    → Hold (weighedBy (subsOf e one s t)) (weighedBy (subsOf f other s t))
     → Hold (unevaluated one) (unevaluated other)
-    → Hold (setPoint e one s t) (setPoint e other s t)
+    → Hold (setPoint e one s t) (setPoint f other s t)
 unfolding setPoint
-both-set-points e one other s t Hold on off = by-place (onMap s t)
+both-set-points e f one other s t Hold on off = by-place (onMap s t)
   where
-    by-place : (b : Bool) → Hold (cond b (weighedBy (subsOf e one s t)) (unevaluated one)) (cond b (weighedBy (subsOf e other s t)) (unevaluated other))
+    by-place : (b : Bool) → Hold (cond b (weighedBy (subsOf e one s t)) (unevaluated one)) (cond b (weighedBy (subsOf f other s t)) (unevaluated other))
     by-place true = on
     by-place false = off

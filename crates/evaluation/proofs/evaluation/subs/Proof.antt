@@ -53,11 +53,11 @@ loop-less c = search needs
 
 loop-again : tie.Need-loop-again Inv-loop μ-loop
 loop-again c =
-    let l = c .before .before in
-    let j = l .before .before .before in
+    let turn = c .before .before in
+    let j = turn .before .before .before in
     let a = j .before .args in
     let m = j .if1 .map in
-    let k = l .loop in
+    let k = turn .loop in
     let o = c .if2 in
     let h : k .n < 128 = omega arith in (
       omega arith,

@@ -1,0 +1,2 @@
+pub mod LentSetPoints
+pub mod LentSetPointsProof
