@@ -3,10 +3,11 @@
  *
  * Two calls read a map file and draw its map. gatemap_set_point gives the
  * position and the total weight at (s, t), both from 0 to 1; gatemap_cell says
- * which points reach a cell of the map. A third, gatemap_season, reads a season file and says which
- * map is to be used at a minute. Where there is no answer, they say why by a
- * number. Each is proved to do so for every file or season, every place, cell or
- * minute and every buffer (crates/gatemap_host); docs/FORMATS.md has the formats.
+ * which points reach a cell of the map. A third, gatemap_season, reads a season
+ * file and says which map is to be used at a minute. Where there is no answer,
+ * they say why by a number. Each is proved to do so for every file or season,
+ * every place, cell or minute and every buffer (crates/gatemap_host);
+ * docs/FORMATS.md has the formats.
  * There are two versions of a map file, with one layout: in version 1 a torn edit
  * stays, and in version 2 it is withdrawn, which leaves the map as it was before.
  * Of a season file there is one.

@@ -33,9 +33,9 @@ pub extern "C" fn bench_set_points(file: &[u8], repeats: u64) -> u64 {
     let mut s = 0.25;
     let mut turn: u64 = 0;
     while turn < repeats {
-        let set = set_point(map, s, 0.5);
-        let answer = set.answer;
-        map = set.map;
+        let given = set_point(map, s, 0.5);
+        let answer = given.answer;
+        map = given.map;
         s = next_place(answer);
         turn += 1;
     }

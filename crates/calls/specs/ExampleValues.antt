@@ -2,6 +2,10 @@
 use lib.Ieee.{Float, binary64, ofBits}
 use Rattle.t_mesh.specs.declared.t_mesh.Position.{Position}
 
+-- −0.0
+abbrev pub minusZero : Float
+minusZero = ofBits binary64 0x8000_0000_0000_0000
+
 -- 0.5
 abbrev pub half : Float
 half = ofBits binary64 0x3fe0_0000_0000_0000

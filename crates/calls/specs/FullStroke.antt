@@ -26,6 +26,10 @@ use Rattle.calls.specs.Calls.{Call, insertion, set-point, inserted, eval
 abbrev pub InUnit : Float → Type 0
 InUnit x = T (le 0f x) × T (le x 1f)
 
+-- a place and what is answered there, each in 0 to 1
+abbrev pub InUnitAt : Float → Float → Float → Type 0
+InUnitAt s t x = InUnit s × (InUnit t × InUnit x)
+
 -- of every element of a list
 abbrev pub Each : {A : Type 0} → (A → Type 0) → List A → Type 0
 Each P [] = Unit {0}
@@ -51,7 +55,7 @@ EvaluationInUnit axis event =
 -- if the event is a set-point whose answer is a value, its place and the value on the axis lie in 0 to 1
 abbrev pub SetPointInUnit : Axis → Event → Type 0
 SetPointInUnit axis event =
-    (s t : Float) (value : Evaluation) → event .call ≡ set-point s t → event .answer ≡ evaluated (Is value) → InUnit s × (InUnit t × InUnit (onAxis axis value))
+    (s t : Float) (value : Evaluation) → event .call ≡ set-point s t → event .answer ≡ evaluated (Is value) → InUnitAt s t (onAxis axis value)
 
 -- the premises, of a closeness, a border weight, four corners, an axis and a list of calls on the map made from them
 pub record Premises (e w : Float) (bottomLeft bottomRight topRight topLeft : Position) (axis : Axis) (calls : List Call) : Type 0 where

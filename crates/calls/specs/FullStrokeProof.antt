@@ -10,14 +10,14 @@ use Rattle.surface.specs.declared.evaluation.EvaluationAnswer.{EvaluationAnswer
 use Rattle.surface.specs.declared.evaluation.EvaluationAnswer.the-variants.{Is, Refused}
 use Rattle.calls.specs.Calls.{Call, insertion, evaluation, set-point, question, pulling, Answer, inserted, evaluated, questioned, pulled, Event, mapAfter, runOf}
 use Rattle.calls.specs.FullStroke.{Each, DoneInUnit, EvaluationInUnit, SetPointInUnit, NeverPastFullStroke}
-use Rattle.calls.specs.Sound.{Sound, AnswerInUnit, SetPointOnAxis}
+use Rattle.calls.specs.Sound.{Sound, AnswerInUnit, ValueInUnitAt}
 use Rattle.calls.specs.SoundLaws.{new-sound, insertion-sound, evaluation-sound, set-point-sound, question-sound, pulling-sound}
 use Rattle.calls.specs.WithdrawalLaws.{by-either-rule}
 
 -- ---- what is said of an event, by its call and its answer
 -- of the answer to a set-point; of any other call nothing
 abbrev SaidOf : Axis → Call → Answer → Type 0
-SaidOf axis (set-point s t) (evaluated answer) = SetPointOnAxis axis s t answer
+SaidOf axis (set-point s t) (evaluated answer) = ValueInUnitAt axis s t answer
 SaidOf axis (set-point s t) (inserted answer) = Unit {0}
 SaidOf axis (set-point s t) (questioned answer) = Unit {0}
 SaidOf axis (set-point s t) (pulled outcome) = Unit {0}
@@ -37,7 +37,7 @@ module _ (axis : Axis) where
   )
 
   -- a value that is in 0 to 1 is so whatever its weight
-  answer-in-unit : (s t : Float) (answer : EvaluationAnswer) → SetPointOnAxis axis s t answer → AnswerInUnit axis (evaluated answer)
+  answer-in-unit : (s t : Float) (answer : EvaluationAnswer) → ValueInUnitAt axis s t answer → AnswerInUnit axis (evaluated answer)
   answer-in-unit s t (Is value) h = λ positive finite. h .1 .1
   answer-in-unit s t (Refused refusal) h = tt
 

@@ -1,5 +1,5 @@
 -- The theorem of FullStroke is not empty. On a map with border 1.0, at the closeness of document 01: a list of calls that meets its
--- premises on the first axis and whose evaluation is exactly 1.0 there; and one that meets them on every axis, in which a torn point
+-- premises on the first axis and whose evaluation and set-point are exactly 1.0 there; and one that meets them on every axis, in which a torn point
 -- at 7.0 stands in the mesh, linked and not listed, and whose evaluation has a positive and finite weight and lies in 0 to 1.
 -- Torn insertions are withdrawn where the call says so: the same insertion is then answered the same and leaves the map as it was, whether it keeps knots or not.
 -- A corner's pull of 3.0 draws an evaluation towards the corner; settings of pulls are refused 11 and 17, and then change nothing; −0.0 is set, and a torn point's
@@ -27,9 +27,9 @@ use Rattle.pull.specs.Pull.{setPull}
 use Rattle.surface.specs.Evaluation.{onAxis}
 use Rattle.surface.specs.declared.evaluation.Evaluation.{Evaluation}
 use Rattle.surface.specs.declared.evaluation.EvaluationAnswer.the-variants.{Is}
-use Rattle.calls.specs.Calls.{Call, insertion, evaluation, pulling, inserted, evaluated, pulled, answerTo, mapAfter, runOf}
+use Rattle.calls.specs.Calls.{Call, insertion, evaluation, set-point, pulling, inserted, evaluated, pulled, answerTo, mapAfter, runOf}
 use Rattle.calls.specs.FullStroke.{InUnit, Premises}
-use Rattle.calls.specs.ExampleValues.{half, three, seven, positionAt}
+use Rattle.calls.specs.ExampleValues.{minusZero, half, three, seven, positionAt}
 
 -- the weight of a value is positive and finite
 abbrev pub Weighty : Evaluation → Type 0
@@ -43,11 +43,11 @@ lower = positionAt oneLiteral zeroLiteral zeroLiteral
 abbrev pub upper : Position
 upper = positionAt oneLiteral oneLiteral oneLiteral
 
--- an insertion, and an evaluation in the middle
+-- an insertion, and an evaluation and the set-point in the middle
 abbrev pub fullCalls : List Call
-fullCalls = insertion false 0 Right half lower ∷ (evaluation half half ∷ [])
+fullCalls = insertion false 0 Right half lower ∷ (evaluation half half ∷ (set-point half half ∷ []))
 
--- what the evaluation answers: 1.0 on the first axis
+-- what both answer: 1.0 on the first axis
 abbrev pub full : Evaluation
 full =
     record {
@@ -62,9 +62,9 @@ abbrev pub FullRun : Type 0
 FullRun =
     runOf millionth (newTmesh oneLiteral lower lower upper upper) fullCalls
     ≡ record { call = insertion false 0 Right half lower; answer = inserted (Done 1 0) }
-    ∷ (record { call = evaluation half half; answer = evaluated (Is full) } ∷ [])
+    ∷ (record { call = evaluation half half; answer = evaluated (Is full) } ∷ (record { call = set-point half half; answer = evaluated (Is full) } ∷ []))
 
--- the premises hold, and the evaluation is exactly 1.0 with a positive and finite weight
+-- the premises hold, and the evaluation and the set-point are exactly 1.0 with a positive and finite weight
 pub record FullStrokeTouched : Type 0 where
   pub premises : Premises millionth oneLiteral lower lower upper upper X fullCalls
   pub run : FullRun
@@ -196,7 +196,7 @@ pub record PullsAnswered : Type 0 where
   pub infinite : TurnedAway 17 2 (inf false)
   pub not-a-number : TurnedAway 17 2 nan
   -- −0.0 is set, and so is the pull of the torn point, which is not listed
-  pub minus-zero : SetOn plate 2 (ofBits binary64 0x8000_0000_0000_0000)
+  pub minus-zero : SetOn plate 2 minusZero
   pub torn : SetOn (mapAfter millionth plate tearing) 4 three
 
 -- all of these

@@ -22,6 +22,7 @@ use Rattle.t_mesh.specs.Insertion.{addControlPoint}
 use Rattle.pull.specs.Pull.{setPull}
 use Rattle.knot_vectors.specs.Knots.{rowsFrom, allKnots, generateKnotVectors}
 use Rattle.surface.specs.Evaluation.{onAxis, sumFrom, valueOf, withKnots, subsOf}
+use Rattle.surface.specs.SetPoint.{whereWeighty, setPoint}
 use Rattle.calls.specs.Calls.{Call, insertion, evaluation, set-point, question, pulling, Answer, inserted, evaluated, questioned, pulled, Event, runOf}
 use Rattle.calls.specs.FullStroke.{InUnit, Each, DoneInUnit, Premises}
 use Rattle.calls.specs.ExampleValues.{positionAt}
@@ -60,7 +61,7 @@ one-in-unit = (tt, tt)
 -- ---- the calls
 computed : FullRun × (TornRun × (TornStands × (WithdrawnLeavesMap × (PulledRun × PullsAnswered))))
 unfolding runOf newTmesh addControlPoint insertPoint inUnit checked checkedIntervals placed newSide firstSide withFirst secondSide sided
-    connectPoints connectable isMade sidesOf millionth small findInferredConnection seekFrom judgeAt walkOf onward subsOf withKnots setPull
+    connectPoints connectable isMade sidesOf millionth small findInferredConnection seekFrom judgeAt walkOf onward subsOf withKnots setPull whereWeighty setPoint
     generateKnotVectors allKnots rowsFrom pointKnotVectors knotsAt rayOf rayFrom approachOf approachIn valueOf sumFrom formula sumOfTerms
     le lt eq ofBits ofFields add sub mul div sum round units odd size span climb neg
 computed =
@@ -87,7 +88,7 @@ full-stroke-touched =
         bottom-right = one-in-unit;
         top-right = one-in-unit;
         top-left = one-in-unit;
-        done = subst (Each (DoneInUnit X)) (sym (computed .0)) (in-unit-event X _ one-in-unit, (other-event X _ tt, tt));
+        done = subst (Each (DoneInUnit X)) (sym (computed .0)) (in-unit-event X _ one-in-unit, (other-event X _ tt, (other-event X _ tt, tt)));
       };
       run = computed .0;
       weighty = (tt, tt);

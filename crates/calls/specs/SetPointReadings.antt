@@ -12,15 +12,12 @@ use Rattle.surface.specs.Evaluation.{evaluationNumber, subsOf}
 use Rattle.surface.specs.SetPoint.{setPoint}
 use Rattle.surface.specs.declared.evaluation.EvaluationAnswer.the-variants.{Is, Refused}
 use Rattle.calls.specs.Calls.{pulling, mapAfter}
-use Rattle.calls.specs.ExampleValues.{half}
+use Rattle.calls.specs.ExampleValues.{minusZero, half}
 use Rattle.calls.specs.NotEmpty.{plate, evaluatedPlate}
 
--- 5.0; −0.0; the floats beside 0 and beside 1
+-- 5.0; the floats beside 0 and beside 1
 abbrev pub five : Float
 five = ofBits binary64 0x4014_0000_0000_0000
-
-abbrev pub minusZero : Float
-minusZero = ofBits binary64 0x8000_0000_0000_0000
 
 abbrev pub belowZero : Float
 belowZero = ofBits binary64 0x8000_0000_0000_0001
@@ -55,6 +52,7 @@ pub record SetPointReadings : Type 0 where
   pub beyond-off : OffAt plate five half
   -- no knots are kept before, and with knots kept it is the same
   pub none-kept : plate .kept ≡ false
+  pub kept : evaluatedPlate .kept ≡ true
   pub with-knots : OffAt evaluatedPlate five half
   -- beside the map, in s and in t, and far from it
   pub s-above : OffAt plate aboveOne half

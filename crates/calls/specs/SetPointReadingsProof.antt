@@ -26,6 +26,7 @@ set-point-readings =
       beyond = refl;
       beyond-off = refl;
       none-kept = refl;
+      kept = refl;
       with-knots = refl;
       s-above = refl;
       t-above = refl;

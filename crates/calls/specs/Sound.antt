@@ -14,7 +14,7 @@ use Rattle.surface.specs.Evaluation.{onAxis}
 use Rattle.surface.specs.declared.evaluation.EvaluationAnswer.{EvaluationAnswer}
 use Rattle.surface.specs.declared.evaluation.EvaluationAnswer.the-variants.{Is, Refused}
 use Rattle.calls.specs.Calls.{Answer, inserted, evaluated, questioned, pulled}
-use Rattle.calls.specs.FullStroke.{InUnit}
+use Rattle.calls.specs.FullStroke.{InUnit, InUnitAt}
 use Rattle.calls.specs.Good.{NotNegative, GoodStore, GoodRows}
 
 -- a position for each listed number, in 0 to 1 on the axis
@@ -30,14 +30,15 @@ pub record Sound (axis : Axis) (map : Tmesh) : Type 0 where
   pub points : ListedInUnit axis (map .mesh .listed) (map .mesh .places)
   pub pulls : (n : ℕ) → NotNegative (pullOf map n)
 
--- a value lies in 0 to 1 on the axis, and so, if the answer of a set-point at (s, t) is one, do s and t
+-- an answer that is a value lies in 0 to 1 on the axis
 abbrev pub ValueInUnit : Axis → EvaluationAnswer → Type 0
 ValueInUnit axis (Is value) = InUnit (onAxis axis value)
 ValueInUnit axis (Refused refusal) = Unit {0}
 
-abbrev pub SetPointOnAxis : Axis → Float → Float → EvaluationAnswer → Type 0
-SetPointOnAxis axis s t (Is value) = InUnit s × (InUnit t × InUnit (onAxis axis value))
-SetPointOnAxis axis s t (Refused refusal) = Unit {0}
+-- and so does the place (s, t) at which it is answered
+abbrev pub ValueInUnitAt : Axis → Float → Float → EvaluationAnswer → Type 0
+ValueInUnitAt axis s t (Is value) = InUnitAt s t (onAxis axis value)
+ValueInUnitAt axis s t (Refused refusal) = Unit {0}
 
 -- an answer that is a value with a positive and finite total weight lies in 0 to 1 on the axis
 abbrev pub AnswerInUnit : Axis → Answer → Type 0

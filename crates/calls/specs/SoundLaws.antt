@@ -50,7 +50,7 @@ use Rattle.calls.specs.GoodLaws.{zero-not-negative, loose-point, point-i
 use Rattle.calls.specs.GoodKnotsLaws.{blank-knots, no-knots, good-rows}
 use Rattle.calls.specs.PullingLaws.{pulled-case}
 use Rattle.calls.specs.RowsLaws.{OfRows}
-use Rattle.calls.specs.Sound.{ListedInUnit, Sound, ValueInUnit, SetPointOnAxis, AnswerInUnit}
+use Rattle.calls.specs.Sound.{ListedInUnit, Sound, ValueInUnit, ValueInUnitAt, AnswerInUnit}
 
 -- ---- listed places
 module _ (axis : Axis) where
@@ -251,16 +251,16 @@ passes-in-unit x h =
     )
 
 pub set-point-sound : (axis : Axis) (e : Float) (map : Tmesh) → Sound axis map → (s t : Float)
-    → SetPointOnAxis axis s t (setPoint e map s t .answer) × Sound axis (setPoint e map s t .map)
+    → ValueInUnitAt axis s t (setPoint e map s t .answer) × Sound axis (setPoint e map s t .map)
 set-point-sound axis e map sound s t =
     let evaluated = evaluation-sound axis e map sound s t in
-    set-point-case e map s t (λ given. SetPointOnAxis axis s t (given .answer) × Sound axis (given .map))
+    set-point-case e map s t (λ given. ValueInUnitAt axis s t (given .answer) × Sound axis (given .map))
     (λ on.
     let both = and-both (inUnit s) (inUnit t) on in
     (placed (passes-in-unit s (both .0)) (passes-in-unit t (both .1)) (weighed (subsOf e map s t .answer)) (weighed-in-unit axis (subsOf e map s t .answer) (evaluated .0)), evaluated .1))
     (λ _. (tt, sound))
   where
-    placed : InUnit s → InUnit t → (answer : EvaluationAnswer) → ValueInUnit axis answer → SetPointOnAxis axis s t answer
+    placed : InUnit s → InUnit t → (answer : EvaluationAnswer) → ValueInUnit axis answer → ValueInUnitAt axis s t answer
     placed in-s in-t (Is value) h = (in-s, (in-t, h))
     placed in-s in-t (NoValue refusal) h = tt
 

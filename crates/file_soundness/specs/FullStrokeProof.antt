@@ -32,7 +32,7 @@ use Rattle.surface.specs.declared.evaluation.Evaluation.{Evaluation}
 use Rattle.surface.specs.declared.evaluation.EvaluationAnswer.{EvaluationAnswer}
 use Rattle.surface.specs.declared.evaluation.EvaluationAnswer.the-variants.{Is, Refused}
 use Rattle.calls.specs.Calls.{Call, insertion, evaluation, set-point, question, pulling, Answer, evaluated, runOf}
-use Rattle.calls.specs.FullStroke.{InUnit, Each, DoneInUnit as CallDoneInUnit, SetPointInUnit}
+use Rattle.calls.specs.FullStroke.{InUnit, InUnitAt, Each, DoneInUnit as CallDoneInUnit, SetPointInUnit}
 use Rattle.calls.specs.FullStrokeProof.{never-past-full-stroke}
 use Rattle.counting.specs.BoolLaws.{cond-case}
 use Rattle.soundness.specs.MapCalls.{answerTold}
@@ -174,7 +174,7 @@ written-back Z value out fit room =
 -- ---- the call
 -- what is shown of a value at (s, t): its place and the value on the axis lie in 0 to 1, and the value is an f64 there
 abbrev Shown : Axis → Float → Float → Evaluation → Type 0
-Shown axis s t value = (InUnit s × (InUnit t × InUnit (onAxis axis value))) × T (fits binary64 (onAxis axis value))
+Shown axis s t value = InUnitAt s t (onAxis axis value) × T (fits binary64 (onAxis axis value))
 
 -- the count of a valid file is that of its length
 abbrev pub OwnCount : List ℕ → FileCheck → Type 0
@@ -228,7 +228,7 @@ module _ (file : List ℕ) (axis : Axis) (s t : Float) where
 module _ (axis : Axis) (s t : Float) (out : List ℕ) where
   -- the same of what is read in a buffer
   abbrev Written : List ℕ → Type 0
-  Written bytes = InUnit s × (InUnit t × InUnit (floatAt bytes (placeOf axis)))
+  Written bytes = InUnitAt s t (floatAt bytes (placeOf axis))
 
   -- what the buffer holds, by the answer
   buffer-in-unit : (answer : EvaluationAnswer) → 32 ≤ length out → ((value : Evaluation) → answer ≡ Is value → Shown axis s t value)

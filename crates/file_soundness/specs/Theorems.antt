@@ -18,7 +18,7 @@ use Rattle.t_mesh.specs.Tmesh.{Axis, X, Y, Z, coordinate, storeOf}
 use Rattle.t_mesh.specs.declared.t_mesh.Tmesh.{Tmesh}
 use Rattle.surface.specs.SetPoint.{onMap}
 use Rattle.census.specs.Census.{countsOf}
-use Rattle.calls.specs.FullStroke.{InUnit}
+use Rattle.calls.specs.FullStroke.{InUnit, InUnitAt}
 use Rattle.soundness.specs.Theorems.{OneOf}
 use Rattle.ledger.specs.Ledger.{entered, countsBy, openingsBy}
 use Rattle.ledger.specs.Theorem.{HasLedger}
@@ -113,7 +113,7 @@ FileNeverPastFullStroke =
     → ((k : ℕ) → k < 4 → InUnit (coordinate axis (cornerOf file k)))
     → DoneInUnit axis (editsFrom (editCount file) file editsAt) (fileNumbers millionth file (editCount file))
     → hostNumber file s t out ≡ 0
-    → InUnit (ofBits binary64 s) × (InUnit (ofBits binary64 t) × InUnit (floatAt (hostBuffer file s t out) (placeOf axis)))
+    → InUnitAt (ofBits binary64 s) (ofBits binary64 t) (floatAt (hostBuffer file s t out) (placeOf axis))
 
 -- ---- WHICH POINTS REACH A CELL, for files
 -- the words of a cell and their count, as they stand in a buffer

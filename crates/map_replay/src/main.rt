@@ -140,10 +140,10 @@ fn replay_evaluation(call: &[u8], map: Tmesh) -> MapReplayed {
 }
 
 fn replay_set_point(call: &[u8], map: Tmesh) -> MapReplayed {
-    let set = set_point(map, float_at(call, 1), float_at(call, 9));
-    let answer = set.answer;
+    let given = set_point(map, float_at(call, 1), float_at(call, 9));
+    let answer = given.answer;
     let judged = judge_evaluation(answer, call);
-    let next = set.map;
+    let next = given.map;
     MapReplayed {
         map: next,
         right: judged.right,

@@ -3,8 +3,8 @@ ghost use mathlib.Core.Path.{_≡_};
 ghost use Rattle.control_point.specs.Small.{millionth};
 ghost use Rattle.map_file.specs.Run.{fileMap, fileSetPoint};
 ghost use Rattle.map_file.specs.Table.{fileSetPointTable};
-ghost use Rattle.surface.specs.Evaluation.{evaluationTold};
-ghost use Rattle.surface.specs.SetPoint.{setPoint};
+ghost use Rattle.surface.specs.Evaluation.{evaluationTold, subsOf};
+ghost use Rattle.surface.specs.SetPoint.{weighed, setPoint};
 use control_point::refusal::Refusal;
 use control_point::small::closeness;
 use counted_file::FileCheck;
@@ -15,13 +15,10 @@ use set_point_check::on_map;
 use set_point_check::weighed;
 use surface::evaluation::EvaluationAnswer;
 
-// After so many edits, with no room for notes; off the map nothing is run. The mesh stays lent from its corners to the answer: no map stands by value.
+// On the map, after so many edits, with no room for notes. The mesh stays lent from its corners to the answer: no map stands by value.
 fn edited_set_point(file: &[u8], count: usize, s: f64, t: f64) -> EvaluationAnswer
-    ensures { λ r. ⌜ r ≡ setPoint millionth (fileMap millionth (now (file .entry)) count) s t .answer ⌝ }
+    ensures { λ r. ⌜ r ≡ weighed (subsOf millionth (fileMap millionth (now (file .entry)) count) s t .answer) ⌝ }
 {
-    if !on_map(s, t) {
-        return EvaluationAnswer::Refused(Refusal::OffMap);
-    }
     let mut kinds = [0u8; 512];
     let mut numbers = [0u8; 512];
     let mut intervals = [0.0; 512];
@@ -57,6 +54,16 @@ fn edited_set_point(file: &[u8], count: usize, s: f64, t: f64) -> EvaluationAnsw
     ))
 }
 
+// Of a valid file; off the map no edit is run.
+fn valid_set_point(file: &[u8], count: usize, s: f64, t: f64) -> EvaluationAnswer
+    ensures { λ r. ⌜ r ≡ setPoint millionth (fileMap millionth (now (file .entry)) count) s t .answer ⌝ }
+{
+    if !on_map(s, t) {
+        return EvaluationAnswer::Refused(Refusal::OffMap);
+    }
+    edited_set_point(file, count, s, t)
+}
+
 // The set-point of a file at (s, t); a refused file runs nothing.
 pub fn file_set_point(file: &[u8], s: f64, t: f64) -> EvaluationAnswer
     ensures is { λ r. ⌜ r ≡ fileSetPoint millionth (now (file .entry)) s t ⌝ }
@@ -64,7 +71,7 @@ pub fn file_set_point(file: &[u8], s: f64, t: f64) -> EvaluationAnswer
 {
     let check = validate(file);
     match check {
-        FileCheck::Valid(count) => edited_set_point(file, count, s, t),
+        FileCheck::Valid(count) => valid_set_point(file, count, s, t),
         FileCheck::Refused(refusal) => EvaluationAnswer::Refused(refusal),
     }
 }

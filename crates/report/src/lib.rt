@@ -29,8 +29,8 @@ fn put_map_report(out: &mut [u8], at: usize, map: Tmesh) -> usize
 {
     let counted = put_counts_line(out, at, counts(map));
     let opened = put_open_lines(out, counted, store_of(map.mesh));
-    let set = set_point(map, 0.5, 0.5);
-    let mid = set.answer;
+    let given = set_point(map, 0.5, 0.5);
+    let mid = given.answer;
     put_mid_line(out, opened, mid)
 }
 

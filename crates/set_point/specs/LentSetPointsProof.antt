@@ -6,8 +6,6 @@ use Rattle.surface.specs.Evaluation.{valueOf, answerBy, withKnots, subsOf}
 use Rattle.surface.specs.SetPoint.{weighed}
 use Rattle.surface.specs.SetPointLaws.{both-set-points}
 use Rattle.surface.specs.declared.evaluation.Evaluated.{Evaluated}
-use Rattle.surface.specs.declared.evaluation.EvaluationAnswer.{EvaluationAnswer}
-use Rattle.t_mesh.specs.declared.t_mesh.Tmesh.{Tmesh}
 use Rattle.lent_surface.specs.Lent.{LentArrays, heldBy, lendOf}
 use Rattle.lent_surface.specs.LentIsSubsProof.{lending-is-subs}
 use Rattle.set_point.specs.LentSetPoints.{LentSetPoints}

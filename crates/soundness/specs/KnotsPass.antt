@@ -1,5 +1,5 @@
 -- THE KNOTS OF A POINT PASS `KnotVector::from`. Take any closeness, any border weight ≥ 0.0 (−0.0 and infinity are, a NaN is not), any four
--- corners, any list of insertions, evaluations, questions and settings of pulls on the map made from them, and any number. The five s knots and the five t knots of that
+-- corners, any list of insertions, evaluations, set-points, questions and settings of pulls on the map made from them, and any number. The five s knots and the five t knots of that
 -- point, built with any closeness, never fall if none of them is a NaN, so sorting leaves them as they are, bit for bit.
 -- `T b` says that the test b is true.
 use Prim.Native.Nat.{ℕ}

@@ -119,15 +119,15 @@ abbrev pub PullsUnseen : Type 0
 PullsUnseen = (e : Float) (own : Tmesh) (calls : List MapCall) → allUnpulled (mapAfterAll e own calls) ≡ allUnpulled (mapAfterAll e own (withoutSettings calls))
 
 -- whether a call is an evaluation or a set-point
-abbrev pub isEvaluation : Call → Bool
-isEvaluation (insertion withdraws con d ratio position) = false
-isEvaluation (evaluation s t) = true
-isEvaluation (set-point s t) = true
-isEvaluation (question cell) = false
-isEvaluation (pulling n pull) = false
+abbrev pub asksValue : Call → Bool
+asksValue (insertion withdraws con d ratio position) = false
+asksValue (evaluation s t) = true
+asksValue (set-point s t) = true
+asksValue (question cell) = false
+asksValue (pulling n pull) = false
 
 abbrev pub evaluates : MapCall → Bool
-evaluates (entry call) = isEvaluation call
+evaluates (entry call) = asksValue call
 evaluates generate-knot-vectors = false
 evaluates (point-knot-vectors n) = false
 evaluates (cast-ray n d buffer) = false

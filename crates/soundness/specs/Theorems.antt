@@ -81,8 +81,8 @@ ListingGrows =
     → isListed (afterCall e map call) n ≡ ((addsPoint e map call && eqb n (storeOf map .made)) || isListed map n))
 
 -- ---- refusals
--- On every map: a call that is refused leaves the map as it was, the kept knots and their index too; one that is torn, 8, does so where it withdraws torn insertions. A set-point that is refused 15 leaves the
--- map with the knots that its evaluation kept or built, and nothing else is another.
+-- On every map: a call that is refused leaves the map as it was, the kept knots and their index too; one that is torn, 8, does so where it withdraws torn insertions. A set-point that is refused 15 leaves it
+-- as its evaluation has it, with the knots kept or built.
 abbrev pub RefusedKeepsMap : Type 0
 RefusedKeepsMap =
     (e : Float) (map : Tmesh) (call : MapCall)

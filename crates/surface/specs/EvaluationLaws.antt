@@ -24,12 +24,12 @@ use Rattle.surface.specs.declared.evaluation.Share.{Share}
 use Rattle.knot_vectors.specs.declared.knots.Generated.{Generated}
 
 -- ---- a point's part, by its two basis functions
-pub share-weighed : (own : PointKnots) (place : Place) (s t across upwards : Float) → across ≡ formula binary64Arithmetic s (knots (own .s))
+pub share-by-basis : (own : PointKnots) (place : Place) (s t across upwards : Float) → across ≡ formula binary64Arithmetic s (knots (own .s))
     → upwards ≡ formula binary64Arithmetic t (knots (own .t))
     → let weight = mul binary64 (mul binary64 across upwards) (place .pull) in
     record { x = mul binary64 (place .position .x) weight; y = mul binary64 (place .position .y) weight; z = mul binary64 (place .position .z) weight; weight = weight }
     ≡ shareBy own place s t
-share-weighed own place s t across upwards first second = rw (first, second)
+share-by-basis own place s t across upwards first second = rw (first, second)
 
 -- ---- sums
 -- the sum of the parts below n

@@ -33,7 +33,7 @@ where-weighty-told value = by-test (weighty value)
     by-test true = refl
     by-test false = refl
 
--- a value that has passed is the evaluation's, and its weight is positive and finite
+-- whether an answer is a value, and the value that it is
 abbrev pub isValue : EvaluationAnswer → Type 0
 isValue (Is value) = Unit {0}
 isValue (Refused refusal) = ⊥
@@ -42,7 +42,8 @@ abbrev pub valueIn : Evaluation → EvaluationAnswer → Evaluation
 valueIn other (Is value) = value
 valueIn other (Refused refusal) = other
 
-pub weighed-is : (answer : EvaluationAnswer) (value : Evaluation) → weighed answer ≡ Is value → (answer ≡ Is value) × T (weighty value)
+-- one that has passed is the evaluation's, and its weight is positive and finite
+weighed-is : (answer : EvaluationAnswer) (value : Evaluation) → weighed answer ≡ Is value → (answer ≡ Is value) × T (weighty value)
 unfolding whereWeighty
 weighed-is (Is own) value is = by-test (weighty own) refl is
   where

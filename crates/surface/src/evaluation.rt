@@ -29,7 +29,7 @@ impl EvaluationAnswer {
     }
 }
 
-// What an evaluation answers, and the map after it.
+// What an evaluation or a set-point answers, and the map after it.
 pub struct Evaluated {
     pub answer: EvaluationAnswer,
     pub map: Tmesh,

@@ -1,7 +1,7 @@
 -- `lent_share` meets its contract: the weight is the product of the two basis functions, times the pull.
 use borrow.Author.Needs.{needs}
 use denote.Ref.{now}
-use Rattle.surface.specs.EvaluationLaws.{share-weighed}
+use Rattle.surface.specs.EvaluationLaws.{share-by-basis}
 use Rattle.lent_surface.specs.Lent.{lentKnots, lentPlace}
 use Rattle.lent_surface.proofs.lent_share.Statement.{statement}
 use Rattle.lent_surface.proofs.lent_share.Tie as tie
@@ -46,7 +46,7 @@ returns : tie.Need-returns
 returns c =
     let first = c .before .before in
     let a = first .before .before .before .args in
-    share-weighed (lentKnots (now (a .across)) (now (a .upwards)) (a .n)) (lentPlace (now (a .places)) (a .n)) (a .s) (a .t) _ _ (first .basis-function .ensures) (c .basis-function2 .ensures)
+    share-by-basis (lentKnots (now (a .across)) (now (a .upwards)) (a .n)) (lentPlace (now (a .places)) (a .n)) (a .s) (a .t) _ _ (first .basis-function .ensures) (c .basis-function2 .ensures)
 
 pub lent-share-spec : {M : Type 1} → statement M
 lent-share-spec =

@@ -25,8 +25,8 @@ validate-requires c κs = search needs
 enum-known-check : tie.Need-enum-known-check
 enum-known-check c = search needs
 
-edited-set-point-requires : tie.Need-edited-set-point-requires
-edited-set-point-requires c κs = search needs
+valid-set-point-requires : tie.Need-valid-set-point-requires
+valid-set-point-requires c κs = search needs
 
 enum-known-check-2 : tie.Need-enum-known-check-2
 enum-known-check-2 c = search needs
@@ -36,7 +36,7 @@ returns c =
     let known = c .before .before in
     let check = known .before .before in
     let a = check .before .before .args in
-    let answered : c .edited-set-point .result ≡ setPoint millionth (fileMap millionth (a .file .now) (known .check .given .0 .0)) (a .s) (a .t) .answer = c .edited-set-point .ensures in
+    let answered : c .valid-set-point .result ≡ setPoint millionth (fileMap millionth (a .file .now) (known .check .given .0 .0)) (a .s) (a .t) .answer = c .valid-set-point .ensures in
     promised (check .before .before) _
     (answered
     ∙ set-point-valid millionth (a .file .now) (a .s) (a .t) _ (sym (check .validate .ensures .0) ∙ known .check .given .1))
@@ -54,7 +54,7 @@ file-set-point-spec =
     (tie.spec
     validate-requires
     enum-known-check
-    edited-set-point-requires
+    valid-set-point-requires
     enum-known-check-2
     returns
     returns-2)

@@ -76,12 +76,12 @@ answer-by-requires c κs = search needs
 
 returns : tie.Need-returns Inv-loop μ-loop
 returns c =
-    let l = c .before .before in
-    let j = l .before .before .before in
+    let ended = c .before .before in
+    let j = ended .before .before .before in
     let a = j .before .args in
     let m = j .if1 .map in
     let o = j .if1 .outcome in
-    let k = l .loop in
+    let k = ended .loop in
     let h : k .n ≡ 128 = omega arith in
     beside (λ (x : Evaluated). evaluationTold (x .answer)) _ _ (subs-told millionth (a .t1) (a .s) (a .t)) _
     (evaluated-ready millionth (a .t1) (a .s) (a .t) o m _ (c .answer-by .result)
