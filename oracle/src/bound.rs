@@ -19,8 +19,9 @@ const SIZES: [&[f64]; 4] = [&[5e-324, 1e-323, 1e-310, 0.0], &[f64::MAX, 1e308, 1
 /// What the evaluations of the lists came to.
 #[derive(Default)]
 pub struct Tried {
+    /// Evaluations, set-points among them.
     evaluations: u64,
-    /// Floats of evaluations with a positive and finite weight, on axes that lie in 0 to 1; those with a pull other than 1.0, those at exactly 0 or 1, and
+    /// Floats of these with a positive and finite weight, on axes that lie in 0 to 1; those with a pull other than 1.0, those at exactly 0 or 1, and
     /// those outside.
     bounded: u64,
     pulled: u64,
@@ -48,7 +49,7 @@ impl Tried {
 
     pub fn print(&self) {
         println!(
-            "{} evaluations; {} floats with a positive and finite weight on axes in 0 to 1, {} of them with a pull other than 1.0, {} at an end, {} outside",
+            "{} evaluations and set-points; {} floats with a positive and finite weight on axes in 0 to 1, {} of them with a pull other than 1.0, {} at an end, {} outside",
             self.evaluations, self.bounded, self.pulled, self.at_the_ends, self.outside
         );
     }
@@ -88,7 +89,7 @@ fn set_pulls(list: &mut MapList, random: &mut Random, size: Option<&[f64]>) {
     }
 }
 
-/// A map whose corners and done points lie in 0 to 1 on some axes, and evaluations of it.
+/// A map whose corners and done points lie in 0 to 1 on some axes, and evaluations of it, one in three of them a set-point.
 pub fn list(random: &mut Random, tried: &mut Tried) -> MapList {
     let axes = random.of(&[[true; 3], [true, false, false], [false, true, false], [false, false, true]]);
     let corners = std::array::from_fn(|_| position(random, axes));
@@ -119,6 +120,7 @@ pub fn list(random: &mut Random, tried: &mut Tried) -> MapList {
 }
 
 fn evaluate(list: &mut MapList, random: &mut Random, knots: &[f64], axes: [bool; 3], tried: &mut Tried) {
-    let answer = list.call(MapCall::Evaluate { s: parameter(random, knots), t: parameter(random, knots) });
+    let (s, t) = (parameter(random, knots), parameter(random, knots));
+    let answer = list.call(if random.one_in(3) { MapCall::SetPoint { s, t } } else { MapCall::Evaluate { s, t } });
     tried.count(axes, list.maps.is_pulled(), &answer);
 }
