@@ -79,6 +79,15 @@ def declared(paths):
     return found
 
 
+def imported(text, owned):
+    """The names that a file takes from modules of the library."""
+    found = set()
+    for module, items in re.findall(r"^(?:ghost )?use ([^\s{]+)\.\{([^}]*)\}", text, re.M):
+        if not (module.startswith("Rattle.") and module.split(".")[1] in owned):
+            found |= {part for item in items.split(",") for part in item.strip().split(" as ")}
+    return found
+
+
 def turned(text, table, code):
     def word(m):
         if m.group(0) not in table:
@@ -134,6 +143,7 @@ def main(argv):
             olds = olds + [new]
         if len(olds) > 1:
             print("together:", new, ":", "; ".join(f"{o} ({', '.join(sorted(names[o])[:3])})" for o in olds))
+    owned = set(os.listdir("crates"))
     for path in files(paths):
         with open(path, encoding="utf-8") as f:
             text = f.read()
@@ -143,7 +153,8 @@ def main(argv):
                 print(f"look: {path}: {old} becomes {table[old]}, which stands there too")
         if not check:
             alone = ALONE.get(os.path.normpath(path), {})
-            new = turned(text, {**table, **alone}, "antt" if path.endswith(".antt") else "rt")
+            theirs = imported(text, owned)
+            new = turned(text, {**{o: n for o, n in table.items() if o not in theirs}, **alone}, "antt" if path.endswith(".antt") else "rt")
             if new != text:
                 with open(path, "w", encoding="utf-8") as f:
                     f.write(new)

@@ -1,7 +1,7 @@
 -- Laws of sets kept in words, over any width: a word fits its width, its bits are the set's tests, its ones are as many as the set has numbers, the word of
 -- two sets at once is the `and` of their words, and a word is made from its lowest number up by an `or` for each number of the set.
 use Rattle.std.specs.Prelude.{ℕ, zero, suc, ◌+◌, ◌*◌, ◌/◌, ◌%◌, ◌^◌, ◌<◌, min, ◌≡◌, refl, Bool, true, false, cond, ◌&&◌}
-use Rattle.std.proofs.Common.{sym, ap, ap₂, ◌∙◌, subst, zero-lt-suc, pow-suc, zero_add, add_zero, suc-add, one_mul, mul_assoc, div-one, mul_comm, arith, shl_exact}
+use Rattle.std.proofs.Common.{sym, ap, ap₂, ◌∙◌, subst, zero-lt-suc, pow-suc, zero-add, add-zero, suc-add, one-mul, mul_assoc, div-one, mul_comm, arith, shl_exact}
 use Rattle.std.proofs.Math.Nat.{div-div-eq-div-mul}
 use Rattle.std.proofs.Math.Arith.{digits_lt, digits_div, digits_mod}
 use Rattle.std.specs.Int.Bits.{bit_and, bit_or, and_step, or_shifted_r}
@@ -50,7 +50,7 @@ word_same set other zero n h = refl
 word_same set other (suc width) n h =
     ap₂ (λ (rest low : ℕ). rest * 2 + low)
     (word_same set other width (n + 1) (λ i l. subst (λ (k : ℕ). set k ≡ other k) (shifted n i) (h (suc i) (omega (arith, l)))))
-    (ap digit (subst (λ (k : ℕ). set k ≡ other k) (add_zero n) (h 0 (omega arith))))
+    (ap digit (subst (λ (k : ℕ). set k ≡ other k) (add-zero n) (h 0 (omega arith))))
   where
     shifted : (n i : ℕ) → n + suc i ≡ n + 1 + i
     shifted n i = omega arith
@@ -73,7 +73,7 @@ count_same set other width n same =
 pub count_split : (set : ℕ → Bool) (width more n : ℕ) → count_from set (width + more) n ≡ count_from set width n + count_from set more (n + width)
 unfolding count_from
 count_split set zero more n =
-    ap (λ (k : ℕ). count_from set k n) (zero_add more) ∙ sym (zero_add (count_from set more n)) ∙ ap (λ (k : ℕ). 0 + count_from set more k) (sym (add_zero n))
+    ap (λ (k : ℕ). count_from set k n) (zero-add more) ∙ sym (zero-add (count_from set more n)) ∙ ap (λ (k : ℕ). 0 + count_from set more k) (sym (add-zero n))
 count_split set (suc width) more n =
     ap (λ (k : ℕ). count_from set k n) (suc-add width more)
     ∙ ap (λ (count : ℕ). digit (set n) + count) (count_split set width more (n + 1))
@@ -104,7 +104,7 @@ word_both set other (suc width) n =
 -- with the next number on top
 word_top : (set : ℕ → Bool) (width n : ℕ) → word_from set (suc width) n ≡ digit (set (n + width)) * 2 ^ width + word_from set width n
 unfolding word_from
-word_top set zero n = ap (λ (k : ℕ). 0 + digit (set k)) (sym (add_zero n)) ∙ alone (digit (set (n + 0)))
+word_top set zero n = ap (λ (k : ℕ). 0 + digit (set k)) (sym (add-zero n)) ∙ alone (digit (set (n + 0)))
   where
     alone : (low : ℕ) → 0 + low ≡ low * 1 + 0
     alone low = omega arith
@@ -125,9 +125,9 @@ word_more set width n =
   where
     by_test : (b : Bool) → digit b * 2 ^ width + word_from set width n ≡ cond b (bit_or (word_from set width n) (2 ^ width)) (word_from set width n)
     by_test true =
-        sym (or_shifted_r 1 width (word_from set width n) (word_lt set width n)) ∙ ap (bit_or (word_from set width n)) (one_mul (2 ^ width))
-    by_test false = ap (λ (top : ℕ). top + word_from set width n) (omega arith) ∙ zero_add (word_from set width n)
+        sym (or_shifted_r 1 width (word_from set width n) (word_lt set width n)) ∙ ap (bit_or (word_from set width n)) (one-mul (2 ^ width))
+    by_test false = ap (λ (top : ℕ). top + word_from set width n) (omega arith) ∙ zero-add (word_from set width n)
 
 -- the bit of a number, as code makes it
 pub one_shifted : (i : ℕ) → i < 64 → 1 * 2 ^ i % 2 ^ 64 ≡ 2 ^ i
-one_shifted i h = shl_exact {a = 1} 1 i 64 (omega arith) (omega (arith, h)) ∙ one_mul (2 ^ i)
+one_shifted i h = shl_exact {a = 1} 1 i 64 (omega arith) (omega (arith, h)) ∙ one-mul (2 ^ i)

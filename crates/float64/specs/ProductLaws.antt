@@ -1,6 +1,6 @@
 -- Times 1.0: every f64 times 1.0 is that f64, the NaN too. The product rounds the value's own fraction, which is exact, and a value that fits is written in one way.
 use Rattle.std.specs.Prelude.{◌≡◌, refl, ℕ, zero, suc, ◌+◌, ◌*◌, ◌%◌, ◌^◌, ◌<◌, Bool, true, false, ℤ, pos, negsuc, T, Float}
-use Rattle.std.proofs.Common.{sym, ap, ◌∙◌, subst, mul_left_comm, mul_assoc, mul_one, one_mul, zero_mul, mul-pos, zero-lt-suc, lt_irrefl, pow-suc, arith, eqb→eq, pow-add, pow_pos}
+use Rattle.std.proofs.Common.{sym, ap, ◌∙◌, subst, mul_left_comm, mul_assoc, mul-one, one-mul, zero-mul, mul-pos, zero-lt-suc, lt_irrefl, pow-suc, arith, eqb→eq, pow-add, pow_pos}
 use Rattle.std.proofs.Math.Nat.{pow-succ', eq_of_mul-eq-mul_right}
 use Rattle.std.specs.Float.{nan, inf, fin, Format, binary64}
 use Rattle.std.specs.Float.Ieee.{up, down, round, mul, fits, unlike}
@@ -17,9 +17,9 @@ even_odd m t o h = omega arith
 
 -- two odd numbers at powers of 2
 odd_pow : (m n a b : ℕ) → m % 2 ≡ 1 → n % 2 ≡ 1 → m * 2 ^ a ≡ n * 2 ^ b → (m ≡ n) × (a ≡ b)
-odd_pow m n zero zero o p h = (sym (mul_one m) ∙ h ∙ mul_one n, refl)
-odd_pow m n zero (suc b) o p h = absurd (even_odd m (n * 2 ^ b) o (sym (mul_one m) ∙ h ∙ ap (λ (x : ℕ). n * x) (pow-succ' 2 b) ∙ mul_left_comm n 2 (2 ^ b)))
-odd_pow m n (suc a) zero o p h = absurd (even_odd n (m * 2 ^ a) p (sym (mul_one n) ∙ sym h ∙ ap (λ (x : ℕ). m * x) (pow-succ' 2 a) ∙ mul_left_comm m 2 (2 ^ a)))
+odd_pow m n zero zero o p h = (sym (mul-one m) ∙ h ∙ mul-one n, refl)
+odd_pow m n zero (suc b) o p h = absurd (even_odd m (n * 2 ^ b) o (sym (mul-one m) ∙ h ∙ ap (λ (x : ℕ). n * x) (pow-succ' 2 b) ∙ mul_left_comm n 2 (2 ^ b)))
+odd_pow m n (suc a) zero o p h = absurd (even_odd n (m * 2 ^ a) p (sym (mul-one n) ∙ sym h ∙ ap (λ (x : ℕ). m * x) (pow-succ' 2 a) ∙ mul_left_comm m 2 (2 ^ a)))
 odd_pow m n (suc a) (suc b) o p h =
     let r = odd_pow m n a b o p (eq_of_mul-eq-mul_right 2 (zero-lt-suc 1) (m * 2 ^ a) (n * 2 ^ b)
     (mul_assoc m (2 ^ a) 2 ∙ ap (λ (x : ℕ). m * x) (sym (pow-suc 2 a)) ∙ h ∙ ap (λ (x : ℕ). n * x) (pow-suc 2 b) ∙ sym (mul_assoc n (2 ^ b) 2))) in
@@ -28,15 +28,15 @@ odd_pow m n (suc a) (suc b) o p h =
 -- m * 2 ^ e and n * 2 ^ g, m and n odd
 same_written : (m n : ℕ) (e g : ℤ) → m % 2 ≡ 1 → n % 2 ≡ 1 → m * up e * down g ≡ n * up g * down e → (m ≡ n) × (e ≡ g)
 same_written m n (pos a) (pos b) o p h =
-    let r = odd_pow m n a b o p (sym (mul_one (m * 2 ^ a)) ∙ h ∙ mul_one (n * 2 ^ b)) in (r.0, ap pos r.1)
+    let r = odd_pow m n a b o p (sym (mul-one (m * 2 ^ a)) ∙ h ∙ mul-one (n * 2 ^ b)) in (r.0, ap pos r.1)
 same_written m n (pos a) (negsuc b) o p h =
-    let r = odd_pow m n (a + suc b) 0 o p (ap (λ (x : ℕ). m * x) (pow-add 2 a (suc b)) ∙ sym (mul_assoc m (2 ^ a) (2 ^ suc b)) ∙ h ∙ mul_one (n * 1)) in
+    let r = odd_pow m n (a + suc b) 0 o p (ap (λ (x : ℕ). m * x) (pow-add 2 a (suc b)) ∙ sym (mul_assoc m (2 ^ a) (2 ^ suc b)) ∙ h ∙ mul-one (n * 1)) in
     let z = r.1 in absurd (omega arith)
 same_written m n (negsuc a) (pos b) o p h =
-    let r = odd_pow m n 0 (b + suc a) o p (sym (mul_one (m * 1)) ∙ h ∙ mul_assoc n (2 ^ b) (2 ^ suc a) ∙ ap (λ (x : ℕ). n * x) (sym (pow-add 2 b (suc a)))) in
+    let r = odd_pow m n 0 (b + suc a) o p (sym (mul-one (m * 1)) ∙ h ∙ mul_assoc n (2 ^ b) (2 ^ suc a) ∙ ap (λ (x : ℕ). n * x) (sym (pow-add 2 b (suc a)))) in
     let z = r.1 in absurd (omega arith)
 same_written m n (negsuc a) (negsuc b) o p h =
-    let r = odd_pow m n (suc b) (suc a) o p (ap (λ (x : ℕ). x * 2 ^ suc b) (sym (mul_one m)) ∙ h ∙ ap (λ (x : ℕ). x * 2 ^ suc a) (mul_one n)) in
+    let r = odd_pow m n (suc b) (suc a) o p (ap (λ (x : ℕ). x * 2 ^ suc b) (sym (mul-one m)) ∙ h ∙ ap (λ (x : ℕ). x * 2 ^ suc a) (mul-one n)) in
     (r.0, ap negsuc (let z = r.1 in omega arith))
 
 two_up : (p : ℕ) → 0 < p → 2 * p ≡ 1 → ⊥
@@ -44,8 +44,8 @@ two_up p h e = omega arith
 
 flat : (e : ℤ) → up e * down e ≡ 1 → e ≡ pos 0
 flat (pos zero) h = refl
-flat (pos (suc k)) h = absurd (two_up (2 ^ k) (pow_pos k) (sym (pow-succ' 2 k) ∙ sym (mul_one (2 ^ suc k)) ∙ h))
-flat (negsuc k) h = absurd (two_up (2 ^ k) (pow_pos k) (sym (pow-succ' 2 k) ∙ sym (one_mul (2 ^ suc k)) ∙ h))
+flat (pos (suc k)) h = absurd (two_up (2 ^ k) (pow_pos k) (sym (pow-succ' 2 k) ∙ sym (mul-one (2 ^ suc k)) ∙ h))
+flat (negsuc k) h = absurd (two_up (2 ^ k) (pow_pos k) (sym (pow-succ' 2 k) ∙ sym (one-mul (2 ^ suc k)) ∙ h))
 
 zero_exp : (f : Format) (s : Bool) (e : ℤ) → T (fits f (fin s zero e)) → e ≡ pos 0
 unfolding fits
@@ -59,9 +59,9 @@ same_size : (f : Format) (s : Bool) (m n : ℕ) (e g : ℤ) → T (fits f (fin s
     → fin s m e ≡ fin s n g
 same_size f s zero zero e g p q h = ap (fin s zero) (zero_exp f s e p ∙ sym (zero_exp f s g q))
 same_size f s zero (suc n) e g p q h =
-    absurd (not_zero n (up g) (down e) (up_pos g) (down_pos e) (sym h ∙ ap (λ (x : ℕ). x * down g) (zero_mul (up e)) ∙ zero_mul (down g)))
+    absurd (not_zero n (up g) (down e) (up_pos g) (down_pos e) (sym h ∙ ap (λ (x : ℕ). x * down g) (zero-mul (up e)) ∙ zero-mul (down g)))
 same_size f s (suc m) zero e g p q h =
-    absurd (not_zero m (up e) (down g) (up_pos e) (down_pos g) (h ∙ ap (λ (x : ℕ). x * down e) (zero_mul (up g)) ∙ zero_mul (down e)))
+    absurd (not_zero m (up e) (down g) (up_pos e) (down_pos g) (h ∙ ap (λ (x : ℕ). x * down e) (zero-mul (up g)) ∙ zero-mul (down e)))
 same_size f s (suc m) (suc n) e g p q h =
     let r = same_written (suc m) (suc n) e g (fits_says f s m e p).3 (fits_says f s n g q).3 h in λ i. fin s (r.0 i) (r.1 i)
 
@@ -86,8 +86,8 @@ mul_one_right f nan h = refl
 mul_one_right f (inf s) h = ap inf (like s)
 mul_one_right f (fin s m e) h =
     ap (λ (u : Bool). round f u (m * up e * 1) (down e * 1)) (like s)
-    ∙ ap (λ (a : ℕ). round f s a (down e * 1)) (mul_one (m * up e))
-    ∙ ap (round f s (m * up e)) (mul_one (down e))
+    ∙ ap (λ (a : ℕ). round f s a (down e * 1)) (mul-one (m * up e))
+    ∙ ap (round f s (m * up e)) (mul-one (down e))
     ∙ round_own f s m e h
 
 -- a product times the literal 1.0 is that product

@@ -3,7 +3,7 @@
 -- like), and every finite value that fits the format, of itself (`rounded_own`). `rounded_mono` then turns a comparison of two such floats into one of
 -- two fractions, which is arithmetic of natural numbers. The fraction of a finite float is Order's: (positive_part x - negative_part x) / den x. Assumes nothing.
 use Rattle.std.specs.Prelude.{◌≡◌, refl, ℕ, zero, suc, ◌+◌, ◌-◌, ◌*◌, ◌%◌, ◌^◌, ◌≤◌, ◌<◌, Bool, true, false, not, ◌&&◌, cond, ℤ, pos, negsuc, T, leb, ltb, eqb, Float}
-use Rattle.std.proofs.Common.{sym, ap, ◌∙◌, subst, mul_comm, mul_left_comm, mul_assoc, mul_one, one_mul, zero_mul, mul-pos, sub-add_cancel, zero-lt-suc, lt_irrefl, le_of_eq, not-le_of_lt, lt_of_lt_of_le, lt_of_mul-lt-mul_right, mul-lt-mul_of_pos_right, arith, eqb→eq, ltb→lt, leb→le, nltb→le, pow-add, pow_pos}
+use Rattle.std.proofs.Common.{sym, ap, ◌∙◌, subst, mul_comm, mul_left_comm, mul_assoc, mul-one, one-mul, zero-mul, mul-pos, sub-add_cancel, zero-lt-suc, lt_irrefl, le_of_eq, not-le_of_lt, lt_of_lt_of_le, lt_of_mul-lt-mul_right, mul-lt-mul_of_pos_right, arith, eqb→eq, ltb→lt, leb→le, nltb→le, pow-add, pow_pos}
 use Rattle.std.proofs.Math.Dec.{nleb→lt, not_T}
 use Rattle.std.proofs.Math.Pow.{pow-lt}
 use Rattle.std.specs.Float.{nan, inf, fin, Format, binary32, binary64}
@@ -71,7 +71,7 @@ one_is binary32 = refl
 one_is binary64 = refl
 
 pub round_zero : (f : Format) (s : Bool) (c : ℕ) → 0 < c → round f s 0 c ≡ fin s 0 (pos 0)
-round_zero f s c C = round_same f s 0 c 0 1 C (zero-lt-suc 0) (sym (zero_mul c)) ∙ zero_is f s
+round_zero f s c C = round_same f s 0 c 0 1 C (zero-lt-suc 0) (sym (zero-mul c)) ∙ zero_is f s
 
 -0≤0 : T (le (neg 0f) 0f)
 unfolding le neg
@@ -179,15 +179,15 @@ exponent_le i j h = go (leb i j) (leb→le i j) (nleb→lt i j)
 
 -- the value in units of the format's smallest: m * 2 ^ j, where 2 ^ j is 2 ^ e * 2 ^ low
 own_shift : (f : Format) (e : ℤ) → down e ≤ 2 ^ low f → (j : ℕ) × (up e * 2 ^ low f ≡ 2 ^ j * down e)
-own_shift f (pos k) h = (k + low f, sym (pow-add 2 k (low f)) ∙ sym (mul_one (2 ^ (k + low f))))
+own_shift f (pos k) h = (k + low f, sym (pow-add 2 k (low f)) ∙ sym (mul-one (2 ^ (k + low f))))
 own_shift f (negsuc k) h =
     let l = exponent_le (suc k) (low f) h in
-    (low f - suc k, one_mul (2 ^ low f) ∙ ap (λ (z : ℕ). 2 ^ z) (sym (sub-add_cancel l)) ∙ pow-add 2 (low f - suc k) (suc k))
+    (low f - suc k, one-mul (2 ^ low f) ∙ ap (λ (z : ℕ). 2 ^ z) (sym (sub-add_cancel l)) ∙ pow-add 2 (low f - suc k) (suc k))
 
 pub own_value : (f : Format) (s : Bool) (m : ℕ) (e : ℤ) → T (fits f (fin s m e)) → HasValue (round f s (m * up e) (down e)) s (m * up e) (down e)
 own_value f s zero e h =
     round_exact f s (0 * up e) (down e) 0 0 (down_pos e) (pow_pos (prec f)) (pow_pos (low f + suc (emax f)))
-    (rw (zero_mul (up e), zero_mul (2 ^ low f), zero_mul (down e)))
+    (rw (zero-mul (up e), zero-mul (2 ^ low f), zero-mul (down e)))
 own_value f s (suc m) e h =
     let w = fits_says f s m e h in
     let g = own_shift f e w.1 in

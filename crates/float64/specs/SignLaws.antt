@@ -2,7 +2,7 @@
 -- products, and quotients by a value whose sign bit is clear or that is a NaN (`clear_or_nan`); a difference x - y is `nonneg_or_nan` unless x < y, and
 -- `clear_or_nan` if y < x. So no argument on overflow, underflow or 0 / 0 is needed by who cites them. Assumes nothing.
 use Rattle.std.specs.Prelude.{◌≡◌, refl, ℕ, zero, suc, ◌+◌, ◌-◌, ◌*◌, ◌<◌, Bool, true, false, not, ◌&&◌, cond, ℤ, pos, T, ltb, eqb, Float}
-use Rattle.std.proofs.Common.{ap, mul-pos, zero_mul, zero-lt-suc, arith, eqb→eq, ltb→lt, T_not}
+use Rattle.std.proofs.Common.{ap, mul-pos, zero-mul, zero-lt-suc, arith, eqb→eq, ltb→lt, T_not}
 use Rattle.std.specs.Float.{nan, inf, fin, Format, binary64}
 use Rattle.std.specs.Float.Ieee.{up, down, round, neg, sum, add, sub, mul, div, below, lt, le, fits, is_nan, of_bits, unlike}
 use Rattle.std.specs.Float.Ieee.Fits.{up_pos}
@@ -16,7 +16,7 @@ use Rattle.float64.specs.Rounding.{rounded_mono, rounded_zero, rounded_own, roun
 -- ---- the tests
 
 zero_of : (m k : ℕ) → T (eqb m 0) → m * k ≡ 0
-zero_of m k h = rw (eqb→eq m 0 h) (zero_mul k)
+zero_of m k h = rw (eqb→eq m 0 h) (zero-mul k)
 
 pub nonneg→le : (x : Float) → T (nonneg x) → T (le 0f x)
 unfolding le
