@@ -1,6 +1,8 @@
 // The cubic B-spline basis function of a T-mesh, operation by operation as in the source's t_mesh/basis.rs, with its tables of terms written out:
 // every quotient and sum rounds once, in source order. A NaN, in u or in the knots, is compared as f64 does and goes through the formula.
 // The functions that `basis_function` rests on take the five knots one by one: a to e are the source's a[0] to a[4].
+#![tactic(auto)]
+
 ghost use Rattle.std.specs.Prelude.{false, true, [], ◌∷◌, ◌≡◌};
 ghost use Rattle.basis.specs.Binary64.{binary64_arithmetic, knots};
 ghost use Rattle.basis.specs.Formula.{falling, first_segment, formula, last_segment, rising, sum_of_terms};

@@ -1,5 +1,7 @@
 // Replays the stored cases of the basis function, and says how many came out right. data/cases holds 56 bytes for each case: u, the five
 // knots and the result, as specs/Case.antt says.
+#![tactic(auto)]
+
 ghost use Rattle.std.specs.Prelude.{◌≡◌};
 ghost use Rattle.basis_replay.specs.Case.{is_right, knots_of};
 

@@ -1,5 +1,7 @@
 // What bench/ times. Each function does one piece of work so many times on the map of a list of edits, and answers a number that
 // depends on every turn. An edit is 34 bytes: point, direction, ratio, position, as in a map file. Behind the edits 8 bytes may stand: a pull, which every point of the map has in an evaluation.
+#![tactic(auto)]
+
 use basis::basis_function;
 use big_endian::{after, byte_at, float_at};
 use cells::{CellAnswer, cell_points};

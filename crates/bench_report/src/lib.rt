@@ -1,4 +1,6 @@
 // What bench/ times of the report. It stands apart from bench_host: the report calls `subs`, and with another caller of it in the archive the rows by value read otherwise (bench/README.md).
+#![tactic(auto)]
+
 use report::report;
 
 // No report is longer.

@@ -1,4 +1,6 @@
 // What bench/ times of the set-point, on the map of a map file. It stands apart from bench_host as bench_report does: it calls `subs` too (bench/README.md).
+#![tactic(auto)]
+
 use counted_file::FileCheck;
 use lent_surface::lend;
 use map_format::format::validate;

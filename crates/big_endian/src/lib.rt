@@ -1,4 +1,6 @@
 // Numbers in stored bytes, the most significant byte first. A byte past the end counts as 0, so that every place can be read, and is not written.
+#![tactic(auto)]
+
 ghost use Rattle.std.specs.Prelude.{◌≡◌, ◌+◌, ◌^◌, ◌≤◌, ◌<◌, drop, length, set};
 ghost use Rattle.big_endian.specs.BigEndian.{byte_at, number_at, float_at};
 ghost use Rattle.big_endian.specs.Written.{written, bytes_of, bytes_of_float};

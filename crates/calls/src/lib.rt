@@ -1,1 +1,2 @@
 // Lists of calls on a map: definitions, statements and proofs in specs/, and no function.
+#![tactic(auto)]

@@ -1,4 +1,6 @@
 // The words of a cell and the count of their ones as 17 bytes, which the C call for a cell writes.
+#![tactic(auto)]
+
 ghost use Rattle.std.specs.Prelude.{◌≡◌};
 ghost use Rattle.big_endian.specs.Written.{written};
 ghost use Rattle.cell_bytes.specs.CellBytes.{bytes_of_cell};

@@ -1,4 +1,6 @@
 // Which points reach a cell of the grid: the call on a map.
+#![tactic(auto)]
+
 ghost use Rattle.std.specs.Prelude.{◌≡◌};
 ghost use Rattle.control_point.specs.Small.{millionth};
 ghost use Rattle.cells.specs.Cells.{cell_told, cell_answer_by, cell_points};
@@ -9,14 +11,14 @@ use grid_index::{Cell, cell_of};
 use kept_knots::with_knots;
 use t_mesh::t_mesh::Tmesh;
 
-#[derive(Drop)]
+#[derive(Clone, Copy)]
 pub enum CellAnswer {
     Is(Cell),
     Refused(Refusal),
 }
 
 // What the call answers, and the map after it.
-#[derive(Drop)]
+#[derive(Clone, Copy)]
 pub struct Asked {
     pub answer: CellAnswer,
     pub map: Tmesh,

@@ -14,7 +14,7 @@ use store::store::Store;
 use t_mesh::t_mesh::{Tmesh, store_of};
 
 // The two-way links and the borders of the points made.
-#[derive(Drop)]
+#[derive(Clone, Copy)]
 struct SideCounts {
     links: u16,
     borders: u16,

@@ -1,3 +1,5 @@
 // What is counted of a map.
+#![tactic(auto)]
+
 pub mod census;
 pub mod counts;

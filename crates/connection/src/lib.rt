@@ -1,2 +1,4 @@
 // Linking two points of a store.
+#![tactic(auto)]
+
 pub mod connect;

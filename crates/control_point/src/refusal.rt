@@ -3,7 +3,7 @@ ghost use Rattle.std.specs.Prelude.{◌≡◌};
 ghost use Rattle.control_point.specs.Refusal.{refusal_number};
 ghost use Rattle.control_point.specs.Told.{outcome_number};
 
-#[derive(Drop)]
+#[derive(Clone, Copy)]
 pub enum Refusal {
     Ratio,
     Foreign,
@@ -72,7 +72,7 @@ impl Refusal {
 }
 
 // What came of a call that answers nothing else.
-#[derive(Drop)]
+#[derive(Clone, Copy)]
 pub enum Outcome {
     Done,
     Refused(Refusal),

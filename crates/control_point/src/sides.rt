@@ -45,7 +45,7 @@ pub fn side_at<'a>(
 }
 
 // What a side is, of a point that may not have been made.
-#[derive(Drop)]
+#[derive(Clone, Copy)]
 pub enum SideAnswer {
     Is(Side),
     Refused(Refusal),

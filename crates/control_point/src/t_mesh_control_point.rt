@@ -6,7 +6,7 @@ use crate::refusal::Refusal;
 use crate::t_mesh_direction::TmeshDirection;
 
 // A side is a link to a point with its interval, a border with its weight, or an opening.
-#[derive(Drop)]
+#[derive(Clone, Copy)]
 pub enum Side {
     Link(u8, f64),
     Border(f64),
@@ -14,7 +14,7 @@ pub enum Side {
 }
 
 // The knot coordinates are s, across, and t, upwards.
-#[derive(Drop)]
+#[derive(Clone, Copy)]
 pub struct TmeshControlPoint {
     pub up: Side,
     pub right: Side,

@@ -1,4 +1,6 @@
 // A file that begins with the count of the bytes that follow: its length, by its head and its items, and what a check of it finds.
+#![tactic(auto)]
+
 ghost use Rattle.std.specs.Prelude.{◌≡◌, ◌<◌};
 ghost use Rattle.counted_file.specs.Counted.{counted_right};
 
@@ -10,7 +12,7 @@ pub const COUNT_BYTES: usize = 4;
 // Where the version stands, in one byte.
 pub const VERSION_AT: usize = 4;
 
-#[derive(Drop)]
+#[derive(Clone, Copy)]
 pub enum FileCheck {
     // The count of items.
     Valid(usize),

@@ -1,4 +1,6 @@
 // A side of a new point across the link that it stands in.
+#![tactic(auto)]
+
 ghost use Rattle.std.specs.Prelude.{◌≡◌, ◌<◌};
 ghost use Rattle.control_point.specs.Sides.{lent_sides};
 ghost use Rattle.lent_points.specs.Lent.{lent_points, Room};

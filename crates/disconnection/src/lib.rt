@@ -1,2 +1,4 @@
 // Opening a connection of a store.
+#![tactic(auto)]
+
 pub mod remove;

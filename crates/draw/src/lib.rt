@@ -1,4 +1,6 @@
 // The draws of a load: a state of 64 bits, mixed by shifts, and the floats from 0 to 1 that are taken from it.
+#![tactic(auto)]
+
 ghost use Rattle.std.specs.Prelude.{◌≡◌};
 ghost use Rattle.draw.specs.Draw.{next_draw, drawn_float};
 

@@ -1,2 +1,4 @@
 // Evaluation of a map: the surface at (s, t).
+#![tactic(auto)]
+
 pub mod evaluation;

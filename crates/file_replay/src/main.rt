@@ -1,4 +1,6 @@
 // Replays the stored map files, and says how many came out right: the text of each, and what the C calls answer with it. oracle/README.md has the format of data/cases.
+#![tactic(auto)]
+
 ghost use Rattle.std.specs.Prelude.{◌≤◌};
 
 mod judge;
@@ -27,14 +29,14 @@ fn text_right(file: &[u8], text: &[u8]) -> bool {
 }
 
 // The two C calls.
-#[derive(Drop)]
+#[derive(Clone, Copy)]
 enum HostCall {
     SetPoint,
     Cell,
 }
 
 // A list of calls made: whether each answered what is stored, and how many bytes the list takes.
-#[derive(Drop)]
+#[derive(Clone, Copy)]
 struct CallsJudged {
     right: bool,
     bytes: usize,

@@ -1,4 +1,6 @@
 // f64 from and to its bits, at every pattern and every value, and whether it lies from 0 to 1. The laws of f64 that other crates cite stand in specs/.
+#![tactic(auto)]
+
 ghost use Rattle.std.specs.Prelude.{◌≡◌};
 ghost use Rattle.std.specs.Float.{binary64};
 ghost use Rattle.std.specs.Float.Ieee.{of_bits, to_bits};

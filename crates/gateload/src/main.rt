@@ -1,4 +1,6 @@
 // Reads a seed and a count of edits from standard input, and writes the load's map file; where it is refused, nothing.
+#![tactic(auto)]
+
 use libc::{STDIN_FILENO, STDOUT_FILENO};
 use load::{ASKED_BYTES, write_asked};
 use map_format::format::MOST_FILE_BYTES;

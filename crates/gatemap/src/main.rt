@@ -1,4 +1,6 @@
 // Reads a map file from standard input and prints its report.
+#![tactic(auto)]
+
 use libc::{STDIN_FILENO, STDOUT_FILENO};
 use map_format::format::MOST_FILE_BYTES;
 

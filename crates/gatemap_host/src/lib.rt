@@ -1,4 +1,6 @@
 // The calls of a C host: the bytes of a map file or of a season, what is asked of it, and a buffer that receives the answer; and a load, which a seed and a count stand for. include/gatemap_host.h says them in C.
+#![tactic(auto)]
+
 ghost use Rattle.std.specs.Prelude.{◌≡◌, length};
 ghost use Rattle.gatemap_host.specs.CellCall.{host_cell, host_cell_number, host_cell_buffer, host_cell_table};
 ghost use Rattle.gatemap_host.specs.LoadCall.{host_load_number};

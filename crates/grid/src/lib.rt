@@ -1,4 +1,6 @@
 // The grid of 16 by 16 cells over the map, from 0 to 1 both ways, and which cells a point's knots reach.
+#![tactic(auto)]
+
 ghost use Rattle.std.specs.Prelude.{◌≡◌, ◌<◌};
 ghost use Rattle.grid.specs.Grid.{line, cell_column, cell_row, overlap, on_line, reaches};
 

@@ -1,4 +1,6 @@
 // The index of a map: which of its listed points reach each cell of the grid.
+#![tactic(auto)]
+
 ghost use Rattle.std.specs.Prelude.{◌≡◌, length};
 ghost use Rattle.values.specs.Values.{values_from};
 ghost use Rattle.grid.specs.Grid.{first_knot, last_knot};
@@ -9,14 +11,14 @@ use grid::{line, overlap};
 use ray::knots::PointKnots;
 
 // Of each cell, by its byte, the listed points that reach it: a bit for each number, those below 64 in the first word and those from 64 on in the second.
-#[derive(Drop)]
+#[derive(Clone, Copy)]
 pub struct Index {
     pub first: [u64; 256],
     pub second: [u64; 256],
 }
 
 // The words of one cell, and the count of their ones.
-#[derive(Drop)]
+#[derive(Clone, Copy)]
 pub struct Cell {
     pub first: u64,
     pub second: u64,

@@ -6,7 +6,7 @@ use control_point::refusal::Refusal;
 use store::store::Store;
 
 // What the checks before an insertion give.
-#[derive(Drop)]
+#[derive(Clone, Copy)]
 pub enum Checked {
     // The point at the other end of the link, and the interval.
     Passed(u8, f64),
@@ -14,7 +14,7 @@ pub enum Checked {
 }
 
 // What a side becomes: a border, a link, an opening, or an opening whose search failed; or it stays as it is.
-#[derive(Drop)]
+#[derive(Clone, Copy)]
 pub enum NewSide {
     Takes(f64),
     Joins(u8, f64),
@@ -24,7 +24,7 @@ pub enum NewSide {
 }
 
 // What an insertion answers.
-#[derive(Drop)]
+#[derive(Clone, Copy)]
 pub enum InsertAnswer {
     // The sides opened and the links inferred.
     Done(u8, u8),
@@ -76,7 +76,7 @@ pub fn is_refused(answer: InsertAnswer) -> bool
     }
 }
 
-#[derive(Drop)]
+#[derive(Clone, Copy)]
 pub struct Inserted {
     pub answer: InsertAnswer,
     pub store: Store,

@@ -1,4 +1,6 @@
 // A map with its knots and their index kept.
+#![tactic(auto)]
+
 ghost use Rattle.std.specs.Prelude.{◌≡◌};
 ghost use Rattle.control_point.specs.Small.{millionth};
 ghost use Rattle.surface.specs.Evaluation.{with_knots};

@@ -16,14 +16,14 @@ use ray::knots::{PointKnots, knots_at};
 use t_mesh::t_mesh::Tmesh;
 
 // What came of building them, and the map after it.
-#[derive(Drop)]
+#[derive(Clone, Copy)]
 pub struct Generated {
     pub outcome: Outcome,
     pub map: Tmesh,
 }
 
 // What came of it, and the rows of all numbers; refused, those that stood before.
-#[derive(Drop)]
+#[derive(Clone, Copy)]
 struct ListedKnots {
     outcome: Outcome,
     knots: [PointKnots; 128],

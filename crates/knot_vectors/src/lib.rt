@@ -1,2 +1,4 @@
 // The knots of all listed points of a map.
+#![tactic(auto)]
+
 pub mod knots;

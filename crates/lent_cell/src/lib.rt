@@ -1,4 +1,6 @@
 // Which points of a lent mesh reach a cell: the knots of each listed point are computed, tested and forgotten.
+#![tactic(auto)]
+
 ghost use Rattle.std.specs.Prelude.{◌≡◌, List, Float};
 ghost use Rattle.cells.specs.Cells.{cell_points};
 ghost use Rattle.lent_mesh.specs.LentMesh.{lent_map};

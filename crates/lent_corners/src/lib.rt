@@ -1,5 +1,7 @@
 // The mesh of four corners, lent. That the arrays of points have their length is a premise, which their type meets; those who own such arrays, in this
 // repository, call `lend_corners`.
+#![tactic(auto)]
+
 ghost use Rattle.std.specs.Prelude.{◌≡◌};
 ghost use Rattle.lent_mesh.specs.LentMesh.{lent_map, MeshRoom};
 ghost use Rattle.lent_points.specs.Lent.{lent_points, Room, FilledTo};

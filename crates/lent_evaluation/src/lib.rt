@@ -1,4 +1,6 @@
 // The evaluation of a lent mesh: the knots of each listed point are computed, used and forgotten; every pull is 1.0.
+#![tactic(auto)]
+
 ghost use Rattle.std.specs.Prelude.{◌≡◌};
 ghost use Rattle.lent_mesh.specs.LentMesh.{lent_map};
 ghost use Rattle.surface.specs.Evaluation.{subs_of};

@@ -1,4 +1,6 @@
 // The insertion of a point into lent points.
+#![tactic(auto)]
+
 ghost use Rattle.std.specs.Prelude.{Bool, ◌≡◌, ◌<◌};
 ghost use Rattle.control_point.specs.Sides.{lent_sides};
 ghost use Rattle.lent_points.specs.Lent.{lent_points, Room};

@@ -1,4 +1,6 @@
 // The knots of a point of a lent mesh, computed anew.
+#![tactic(auto)]
+
 ghost use Rattle.std.specs.Prelude.{◌≡◌, ◌<◌};
 ghost use Rattle.control_point.specs.Sides.{lent_sides};
 ghost use Rattle.lent_points.specs.Lent.{across_at, upwards_at};

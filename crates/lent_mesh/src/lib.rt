@@ -1,6 +1,8 @@
 // A mesh, lent: its points as `lent_points` lends them, how many are made, the positions as rows of three floats, and the listing. That a
 // number is below 128 is a premise of `lent_position`, and that the listing has its length one of `lent_listed`, which its type meets; those who own such
 // arrays, in this repository, call these functions.
+#![tactic(auto)]
+
 ghost use Rattle.std.specs.Prelude.{◌≡◌, ◌<◌, length};
 ghost use Rattle.t_mesh.specs.Tmesh.{listed_in};
 ghost use Rattle.lent_mesh.specs.LentMesh.{row_of, lent_position};

@@ -1,6 +1,8 @@
 // The points of a store, lent as arrays of numbers: their sides in three, and their coordinates in a fourth, s and t of each in turn. That
 // a number is below 128 is a premise, and of what writes that the arrays have their length, which their type meets; those who own such arrays, in this
 // repository, call these functions.
+#![tactic(auto)]
+
 ghost use Rattle.std.specs.Prelude.{◌≡◌, ◌<◌, length};
 ghost use Rattle.lent_points.specs.Lent.{lent_points, points_with, points_linked, Room, across_at, upwards_at, coordinates_with};
 

@@ -1,4 +1,6 @@
 // A map lent for evaluation: the knots, the places and the listing of its points. A place is a row of four floats: x, y, z and the pull.
+#![tactic(auto)]
+
 ghost use Rattle.std.specs.Prelude.{◌≡◌, ◌<◌, set};
 ghost use Rattle.control_point.specs.Small.{millionth};
 ghost use Rattle.control_point.specs.Told.{outcome_told};

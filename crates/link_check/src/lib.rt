@@ -1,4 +1,6 @@
 // The checks before an insertion, in order.
+#![tactic(auto)]
+
 ghost use Rattle.std.specs.Prelude.{◌≡◌};
 ghost use Rattle.control_point.specs.Direction.{flip_of};
 ghost use Rattle.control_point.specs.Sides.{side_at, lent_sides};

@@ -1,4 +1,6 @@
 // A load: a map file of drawn edits, which anyone makes alike from a seed and a count of edits.
+#![tactic(auto)]
+
 ghost use Rattle.std.specs.Prelude.{◌≡◌, ◌≤◌, length};
 ghost use Rattle.big_endian.specs.Written.{written};
 ghost use Rattle.draw.specs.Draw.{later_draw};
@@ -26,7 +28,7 @@ pub const ASKED_BYTES: usize = 10;
 const COUNT_AT: usize = 8;
 
 // An edit, and the last of the six draws that made it.
-#[derive(Drop)]
+#[derive(Clone, Copy)]
 struct Drawn {
     pub target: EditTarget,
     pub position: Position,

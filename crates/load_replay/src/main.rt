@@ -1,4 +1,6 @@
 // Replays the stored loads, and says how many came out right: what the C call answers with each. oracle/README.md has the format of data/cases.
+#![tactic(auto)]
+
 mod judge;
 
 use crate::judge::call_is_right;

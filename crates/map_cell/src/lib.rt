@@ -1,4 +1,6 @@
 // Which points reach a cell of the map of a file.
+#![tactic(auto)]
+
 ghost use Rattle.std.specs.Prelude.{◌≡◌};
 ghost use Rattle.cells.specs.Cells.{cell_points, cell_told};
 ghost use Rattle.control_point.specs.Small.{millionth};

@@ -1,2 +1,4 @@
 // One edit of a map file.
+#![tactic(auto)]
+
 pub mod edit;

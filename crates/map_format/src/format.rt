@@ -41,7 +41,7 @@ pub const POSITION_IN: usize = 10;
 const DIRECTIONS: u8 = 4;
 
 // Where an edit inserts: towards a direction of a point, at a ratio of the link there. The edit's position is wanted only where it leaves a point.
-#[derive(Drop)]
+#[derive(Clone, Copy)]
 pub struct EditTarget {
     pub point: u8,
     pub direction: TmeshDirection,
@@ -49,7 +49,7 @@ pub struct EditTarget {
 }
 
 // What stands in a file between the count and the edits. The corners go anticlockwise.
-#[derive(Drop)]
+#[derive(Clone, Copy)]
 pub struct Head {
     pub version: u8,
     pub border: f64,

@@ -1,3 +1,5 @@
 // The format of a map file, and the reader of its edits' targets.
+#![tactic(auto)]
+
 pub mod format;
 pub mod reader;

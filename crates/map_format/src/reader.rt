@@ -4,7 +4,7 @@ ghost use Rattle.map_format.specs.Format.{edits_at, edit_at, target_of};
 
 use crate::format::{EDITS_AT, EditTarget, target_at};
 
-#[derive(Drop)]
+#[derive(Clone, Copy)]
 pub struct MapReader<'a> {
     pub bytes: &'a [u8],
     pub at: usize,

@@ -1,4 +1,6 @@
 // Insertion of a point into a map, by either rule on torn ones.
+#![tactic(auto)]
+
 ghost use Rattle.std.specs.Prelude.{◌≡◌, true};
 ghost use Rattle.control_point.specs.Small.{millionth};
 ghost use Rattle.insertion.specs.Insert.{insert_told};

@@ -31,7 +31,7 @@ const PLACE_BYTES: usize = 32;
 const ROW_BYTES: usize = 80;
 
 // Whether a call answered what is stored, and how many bytes it takes.
-#[derive(Drop)]
+#[derive(Clone, Copy)]
 pub struct Judged {
     pub right: bool,
     pub bytes: usize,

@@ -1,4 +1,6 @@
 // Replays the stored lists of calls on a map, and says how many came out right. oracle/README.md has the format of data/cases.
+#![tactic(auto)]
+
 ghost use Rattle.std.specs.Prelude.{◌≡◌};
 ghost use Rattle.map_replay.specs.Answers.{position_at};
 
@@ -59,7 +61,7 @@ const PULL: u8 = 11;
 const LENT_SET_POINT: u8 = 12;
 
 // A call made: the map after it, whether it answered what is stored, and how many bytes it takes.
-#[derive(Drop)]
+#[derive(Clone, Copy)]
 struct MapReplayed {
     map: Tmesh,
     right: bool,

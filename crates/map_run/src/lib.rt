@@ -1,4 +1,6 @@
 // The run of a file: the map of its border and corners, and its edits in order, over a lent mesh.
+#![tactic(auto)]
+
 ghost use Rattle.std.specs.Prelude.{◌≡◌};
 ghost use Rattle.big_endian.specs.Written.{written};
 ghost use Rattle.control_point.specs.Small.{millionth};

@@ -1,4 +1,6 @@
 // The set-point of a map file.
+#![tactic(auto)]
+
 ghost use Rattle.std.specs.Prelude.{◌≡◌};
 ghost use Rattle.control_point.specs.Small.{millionth};
 ghost use Rattle.map_file.specs.Run.{file_map, file_set_point};

@@ -1,4 +1,6 @@
 // Writing a map file: its head and its edits, each at its place, and what a call that writes a file answers. What has no room in the buffer is not written.
+#![tactic(auto)]
+
 ghost use Rattle.std.specs.Prelude.{◌≡◌, ◌+◌, ◌≤◌};
 ghost use Rattle.big_endian.specs.Written.{written};
 ghost use Rattle.map_format.specs.Format.{position_bytes, edit_bytes, most_edits, bytes_of_position, edit_of, bytes_of_edit, file_length, front_of};
@@ -14,7 +16,7 @@ use map_format::format::{
 use t_mesh::t_mesh::Position;
 
 // What a call that writes a file into a lent buffer answers.
-#[derive(Drop)]
+#[derive(Clone, Copy)]
 pub enum WriteAnswer {
     // How many bytes the file has.
     Is(usize),

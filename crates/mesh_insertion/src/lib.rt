@@ -1,4 +1,6 @@
 // Insertion of a point into a mesh.
+#![tactic(auto)]
+
 ghost use Rattle.std.specs.Prelude.{◌≡◌};
 ghost use Rattle.t_mesh.specs.Insertion.{insert_into_mesh};
 

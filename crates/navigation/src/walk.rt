@@ -8,7 +8,7 @@ use control_point::sides::side_at;
 use control_point::t_mesh_control_point::{Side, is_link, is_made, side_refusal};
 use control_point::t_mesh_direction::TmeshDirection;
 
-#[derive(Drop)]
+#[derive(Clone, Copy)]
 pub enum Walk {
     // The point, the sum of the intervals, the count of moves.
     Reached(u8, f64, u8),

@@ -1,3 +1,5 @@
 // The openings of a store, listed.
+#![tactic(auto)]
+
 pub mod list;
 pub mod openings;

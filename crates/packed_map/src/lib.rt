@@ -1,4 +1,6 @@
 // The map by value that a lent mesh holds.
+#![tactic(auto)]
+
 ghost use Rattle.std.specs.Prelude.{◌≡◌};
 ghost use Rattle.values.specs.Values.{values_from};
 ghost use Rattle.lent_mesh.specs.LentMesh.{unpulled_at, made_or_loose, lent_map};

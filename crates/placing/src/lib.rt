@@ -1,4 +1,6 @@
 // The placing of a new point in a link.
+#![tactic(auto)]
+
 ghost use Rattle.std.specs.Prelude.{◌≡◌, ◌<◌};
 ghost use Rattle.lent_points.specs.Lent.{lent_points, Room};
 ghost use Rattle.insertion.specs.Insert.{point_in_line};

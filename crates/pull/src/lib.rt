@@ -1,4 +1,6 @@
 // The call that sets a point's pull.
+#![tactic(auto)]
+
 ghost use Rattle.std.specs.Prelude.{◌≡◌};
 ghost use Rattle.control_point.specs.Told.{outcome_told};
 ghost use Rattle.pull.specs.Pull.{can_pull, repulled, pull_outcome, set_pull, pull_table};
@@ -8,7 +10,7 @@ use control_point::t_mesh_control_point::is_made;
 use t_mesh::t_mesh::{Place, Tmesh};
 
 // What came of setting a pull, and the map after it.
-#[derive(Drop)]
+#[derive(Clone, Copy)]
 pub struct Pulled {
     pub outcome: Outcome,
     pub map: Tmesh,

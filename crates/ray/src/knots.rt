@@ -12,21 +12,21 @@ use control_point::t_mesh_direction::TmeshDirection;
 use store::store::Store;
 
 // The knots across, s, and upwards, t.
-#[derive(Drop)]
+#[derive(Clone, Copy)]
 pub struct PointKnots {
     pub s: [f64; 5],
     pub t: [f64; 5],
 }
 
 // Refused, the knots are all 0.0.
-#[derive(Drop)]
+#[derive(Clone, Copy)]
 pub struct KnotsAnswer {
     pub outcome: Outcome,
     pub knots: PointKnots,
 }
 
 // A ray of two entries.
-#[derive(Drop)]
+#[derive(Clone, Copy)]
 struct TwoEntries {
     outcome: Outcome,
     first: f64,

@@ -8,7 +8,7 @@ use control_point::small::so_small;
 use control_point::t_mesh_direction::TmeshDirection;
 use navigation::walk::{Walk, navigate};
 
-#[derive(Drop)]
+#[derive(Clone, Copy)]
 pub enum Approach {
     // The next point lies on the ray: the point before it.
     Aligned(u8),

@@ -11,7 +11,7 @@ use navigation::walk::{Walk, navigate};
 use ray_approach::approach::{Approach, approach_ray};
 
 // Where a ray stands between two entries.
-#[derive(Drop)]
+#[derive(Clone, Copy)]
 pub struct Front {
     pub at: u8,
     // The call's first border has been met.
@@ -21,7 +21,7 @@ pub struct Front {
     pub distance: f64,
 }
 
-#[derive(Drop)]
+#[derive(Clone, Copy)]
 pub enum Entry {
     Is(f64, Front),
     Refused(Refusal),

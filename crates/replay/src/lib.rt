@@ -1,4 +1,6 @@
 // What the programs that replay stored cases share: the file of cases, the reading of one, the count of outcomes, and the report.
+#![tactic(auto)]
+
 ghost use Rattle.std.specs.Prelude.{◌≡◌};
 ghost use Rattle.replay.specs.Tally.{one_more, counted, is_end, outcome_of};
 
@@ -6,7 +8,7 @@ use big_endian::pair_at;
 use libc::STDOUT_FILENO;
 
 // What came of a case.
-#[derive(Drop)]
+#[derive(Clone, Copy)]
 pub enum Outcome {
     Right,
     Wrong,
@@ -14,7 +16,7 @@ pub enum Outcome {
 }
 
 // What was read of a case into a buffer: nothing, where the cases have ended; too little, where they end within it or it has no room; or all, in so many bytes.
-#[derive(Drop)]
+#[derive(Clone, Copy)]
 pub enum CaseRead {
     End,
     Part,
@@ -22,7 +24,7 @@ pub enum CaseRead {
 }
 
 // How many cases came out right, and how many wrong.
-#[derive(Drop)]
+#[derive(Clone, Copy)]
 pub struct Tally {
     pub right: u64,
     pub wrong: u64,

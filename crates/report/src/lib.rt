@@ -1,4 +1,6 @@
 // The report of a map file, as the program prints it.
+#![tactic(auto)]
+
 ghost use Rattle.std.specs.Prelude.{◌≡◌, ◌≤◌, length};
 ghost use Rattle.big_endian.specs.Written.{written};
 ghost use Rattle.map_format.specs.Format.{most_edits};

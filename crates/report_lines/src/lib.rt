@@ -1,2 +1,4 @@
 // The lines of a report, put into a lent buffer.
+#![tactic(auto)]
+
 pub mod lines;

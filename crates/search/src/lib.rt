@@ -1,2 +1,4 @@
 // The search for an inferred link of a T-mesh.
+#![tactic(auto)]
+
 pub mod search;

@@ -14,7 +14,7 @@ use control_point::t_mesh_control_point::{Side, is_link, is_made, is_opening, si
 use control_point::t_mesh_direction::TmeshDirection;
 use navigation::walk::{Walk, navigate};
 
-#[derive(Drop)]
+#[derive(Clone, Copy)]
 pub enum Found {
     // The point to connect to, and the interval.
     At(u8, f64),
@@ -23,7 +23,7 @@ pub enum Found {
 }
 
 // What the search does at a point that it has moved to.
-#[derive(Drop)]
+#[derive(Clone, Copy)]
 pub enum Judged {
     On,
     Here,

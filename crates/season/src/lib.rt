@@ -1,4 +1,6 @@
 // The season file: which map is to be used at which minute. The places and sizes are those of docs/FORMATS.md.
+#![tactic(auto)]
+
 ghost use Rattle.std.specs.Prelude.{◌≡◌, ◌≤◌, ◌<◌};
 ghost use Rattle.counted_file.specs.Counted.{file_told};
 ghost use Rattle.season.specs.Season.{most_windows, window_of, days_wrong, holds_with_one, clashes, checked_season, season_table, map_among, season_map, season_told, season_map_table};
@@ -25,7 +27,7 @@ const FIRST_IN: usize = 9;
 
 const LAST_IN: usize = 11;
 
-#[derive(Drop)]
+#[derive(Clone, Copy)]
 pub enum SeasonAnswer {
     // The map's number.
     Is(u8),

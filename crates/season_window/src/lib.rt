@@ -1,4 +1,6 @@
 // A window of a season: the minutes at which a map is to be used. Minutes of the season and of the day are numbers of 32 bits.
+#![tactic(auto)]
+
 ghost use Rattle.std.specs.Prelude.{◌≡◌, min, max};
 ghost use Rattle.season_window.specs.Decision.{common, first_minute};
 ghost use Rattle.season_window.specs.Window.{holds_at, can_hold, hold_together, past_day};
@@ -6,7 +8,7 @@ ghost use Rattle.season_window.specs.Window.{holds_at, can_hold, hold_together, 
 const DAY_MINUTES: u32 = 1440;
 
 // It opens at the minute `opening` of the season and is closed from `closing` on; of each day it has the minutes from `first` to before `last`.
-#[derive(Drop)]
+#[derive(Clone, Copy)]
 pub struct Window {
     pub opening: u32,
     pub closing: u32,

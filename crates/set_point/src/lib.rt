@@ -1,4 +1,6 @@
 // The set-point: of a map, and of a map lent for evaluation.
+#![tactic(auto)]
+
 ghost use Rattle.std.specs.Prelude.{◌≡◌};
 ghost use Rattle.control_point.specs.Small.{millionth};
 ghost use Rattle.lent_surface.specs.Lent.{held_map};

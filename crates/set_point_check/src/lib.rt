@@ -1,4 +1,6 @@
 // The checks of a set-point: that its place lies on the map, and that its value has weight.
+#![tactic(auto)]
+
 ghost use Rattle.std.specs.Prelude.{◌≡◌};
 ghost use Rattle.surface.specs.Evaluation.{evaluation_told};
 ghost use Rattle.surface.specs.SetPoint.{on_map, weighty, where_weighty, where_weighty_table, weighed};

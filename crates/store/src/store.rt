@@ -14,21 +14,21 @@ use control_point::t_mesh_control_point::{TmeshControlPoint, is_made, loose_poin
 use control_point::t_mesh_direction::TmeshDirection;
 
 // The first so many points are made.
-#[derive(Drop)]
+#[derive(Clone, Copy)]
 pub struct Store {
     pub points: [TmeshControlPoint; 128],
     pub made: u8,
 }
 
 // What came of a call, and the store after it.
-#[derive(Drop)]
+#[derive(Clone, Copy)]
 pub struct Changed {
     pub outcome: Outcome,
     pub store: Store,
 }
 
 // A point read.
-#[derive(Drop)]
+#[derive(Clone, Copy)]
 pub enum PointAnswer {
     Is(TmeshControlPoint),
     Refused(Refusal),

@@ -1,4 +1,6 @@
 // Replays the stored lists of direct calls on a store, and says how many came out right. oracle/README.md has the format of data/cases.
+#![tactic(auto)]
+
 ghost use Rattle.std.specs.Prelude.{◌≡◌};
 ghost use Rattle.store_replay.specs.List.{is_store, is_right};
 

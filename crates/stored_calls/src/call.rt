@@ -14,7 +14,7 @@ use store::store::{Changed, Store, make_loose};
 use store::walk::navigate_until_con;
 
 // A call made: the store after it, whether it answered what is stored, and how many bytes it takes.
-#[derive(Drop)]
+#[derive(Clone, Copy)]
 pub struct Replayed {
     pub store: Store,
     pub right: bool,

@@ -1,4 +1,6 @@
 // The ledger of sides of a list of calls: what its insertions answered, by the stored bytes alone, held against what is counted of the map.
+#![tactic(auto)]
+
 ghost use Rattle.std.specs.Prelude.{◌≡◌};
 ghost use Rattle.stored_ledger.specs.Ledger.{no_calls, with_more, with_made, with_insertion, with_withdrawing, with_direct_call, with_call, points_are_right, sides_are_right, ledger_is_right, ledger_holds};
 
@@ -28,7 +30,7 @@ const INFERRED_AT: usize = 37;
 const MOST: u32 = 0x8000_0000;
 
 // The insertions done and those torn, the sums of their counts, and whether a direct call was made, which may change sides by itself.
-#[derive(Drop)]
+#[derive(Clone, Copy)]
 pub struct Totals {
     pub done: u32,
     pub torn: u32,

@@ -1,4 +1,6 @@
 // A page of fillers, held against what a call should have left in its buffer, which is a part of the page.
+#![tactic(auto)]
+
 ghost use Rattle.std.specs.Prelude.{◌≡◌};
 ghost use Rattle.stored_page.specs.Call.{answer_is_right};
 ghost use Rattle.stored_page.specs.Page.{expected_byte, holds};

@@ -6,7 +6,7 @@ use control_point::refusal::Refusal;
 use t_mesh::t_mesh::Tmesh;
 
 // A position with its total weight.
-#[derive(Drop)]
+#[derive(Clone, Copy)]
 pub struct Evaluation {
     pub x: f64,
     pub y: f64,
@@ -14,7 +14,7 @@ pub struct Evaluation {
     pub weight: f64,
 }
 
-#[derive(Drop)]
+#[derive(Clone, Copy)]
 pub enum EvaluationAnswer {
     Is(Evaluation),
     Refused(Refusal),
@@ -33,14 +33,14 @@ impl EvaluationAnswer {
 }
 
 // What an evaluation or a set-point answers, and the map after it.
-#[derive(Drop)]
+#[derive(Clone, Copy)]
 pub struct Evaluated {
     pub answer: EvaluationAnswer,
     pub map: Tmesh,
 }
 
 // A point's weight, and its position times that.
-#[derive(Drop)]
+#[derive(Clone, Copy)]
 pub struct Share {
     pub x: f64,
     pub y: f64,

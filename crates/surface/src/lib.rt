@@ -1,2 +1,4 @@
 // The surface of a map at (s, t): what an evaluation answers.
+#![tactic(auto)]
+
 pub mod evaluation;

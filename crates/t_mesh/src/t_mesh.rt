@@ -7,7 +7,7 @@ use grid_index::Index;
 use ray::knots::PointKnots;
 use store::store::Store;
 
-#[derive(Drop)]
+#[derive(Clone, Copy)]
 pub struct Position {
     pub x: f64,
     pub y: f64,
@@ -15,14 +15,14 @@ pub struct Position {
 }
 
 // Where a point stands, and how hard it pulls: in an evaluation its weight is basis product × pull.
-#[derive(Drop)]
+#[derive(Clone, Copy)]
 pub struct Place {
     pub position: Position,
     pub pull: f64,
 }
 
 // The points and how many are made, as in a store; their places; which of them are listed. The arrays stand first, so that they are copied together.
-#[derive(Drop)]
+#[derive(Clone, Copy)]
 pub struct Mesh {
     pub points: [TmeshControlPoint; 128],
     pub places: [Place; 128],
@@ -31,7 +31,7 @@ pub struct Mesh {
 }
 
 // A mesh, and whether the knots of its listed points and the index built from them are kept. Where they are not, what stands in their place means nothing.
-#[derive(Drop)]
+#[derive(Clone, Copy)]
 pub struct Tmesh {
     pub mesh: Mesh,
     pub knots: [PointKnots; 128],

@@ -1,4 +1,6 @@
 // A position and its weight as 32 bytes, which the C call for a set-point writes.
+#![tactic(auto)]
+
 ghost use Rattle.std.specs.Prelude.{◌≡◌};
 ghost use Rattle.big_endian.specs.Written.{written};
 ghost use Rattle.value_bytes.specs.Value.{bytes_of_value};

@@ -1,1 +1,2 @@
 // Lists as the values of a function: definitions and laws in specs/, no function.
+#![tactic(auto)]
