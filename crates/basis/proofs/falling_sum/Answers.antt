@@ -2,12 +2,8 @@
 use mathlib.Core.Path.{refl}
 use lib.Ieee.{of_bits}
 use Rattle.basis.specs.Formula.{sum_of_terms}
-use Rattle.basis.proofs.rising_sum.Statement.{statement}
-use Rattle.basis.proofs.rising_sum.Tie as tie
+use Rattle.basis.proofs.falling_sum.Goals as goal
 
-returns : tie.Need-returns
+pub returns : goal.returns
 unfolding of_bits sum_of_terms
 returns c = refl
-
-pub rising-sum-spec : {M : Type 1} → statement M
-rising-sum-spec = tie.close (tie.spec returns)
