@@ -43,8 +43,7 @@ fn host_answer(file: &[u8], s: u64, t: u64, room: usize) -> EvaluationAnswer
     file_set_point(file, from_bits(s), from_bits(t))
 }
 
-#[unsafe(no_mangle)]
-pub extern "C" fn gatemap_set_point(file: &[u8], s: u64, t: u64, out: &mut [u8]) -> u64
+pub fn gatemap_set_point(file: &[u8], s: u64, t: u64, out: &mut [u8]) -> u64
     ensures number { result ≡ host_number file.now s t out.old }
     ensures buffer { out.new ≡ host_buffer file.now s t out.old }
     ensures told { result ≡ (host_table file.now s t (length out.old)).number }
@@ -68,8 +67,7 @@ fn host_cell(file: &[u8], cell: u8, room: usize) -> CellAnswer
     file_cell(file, cell)
 }
 
-#[unsafe(no_mangle)]
-pub extern "C" fn gatemap_cell(file: &[u8], cell: u8, out: &mut [u8]) -> u64
+pub fn gatemap_cell(file: &[u8], cell: u8, out: &mut [u8]) -> u64
     ensures number { result ≡ host_cell_number file.now cell out.old }
     ensures buffer { out.new ≡ host_cell_buffer file.now cell out.old }
     ensures told { result ≡ (host_cell_table file.now cell (length out.old)).number }
@@ -93,8 +91,7 @@ fn host_season(season: &[u8], minute: u32, room: usize) -> SeasonAnswer
     season_map(season, minute)
 }
 
-#[unsafe(no_mangle)]
-pub extern "C" fn gatemap_season(season: &[u8], minute: u32, out: &mut [u8]) -> u64
+pub fn gatemap_season(season: &[u8], minute: u32, out: &mut [u8]) -> u64
     ensures number { result ≡ host_season_number season.now minute out.old }
     ensures buffer { out.new ≡ host_season_buffer season.now minute out.old }
     ensures told { result ≡ (host_season_table season.now minute (length out.old)).number }
@@ -108,8 +105,7 @@ pub extern "C" fn gatemap_season(season: &[u8], minute: u32, out: &mut [u8]) -> 
     }
 }
 
-#[unsafe(no_mangle)]
-pub extern "C" fn gatemap_load(seed: u64, edits: u64, out: &mut [u8]) -> u64
+pub fn gatemap_load(seed: u64, edits: u64, out: &mut [u8]) -> u64
     ensures number { result ≡ host_load_number seed edits out.old }
     ensures buffer { out.new ≡ load_buffer seed edits out.old }
     ensures told { result ≡ length_or_number (load_table seed edits (length out.old)) }
