@@ -4,15 +4,33 @@ use mathlib.Core.Path.{◌≡◌, ◌∙◌, sym, ap, subst}
 use native.Mathlib.Omega.{arith}
 use borrow.Author.Tests.{lt-ltb, le-ltb}
 use lib.Ieee.{Float}
-use lib.ListN.{length-map, set}
-use Rattle.control_point.specs.Point.{loose_point}
+use lib.ListN.{length, set}
+use Rattle.control_point.specs.Point.{loose_point, minus_one}
 use Rattle.control_point.specs.Told.{outcome_told}
+use Rattle.control_point.specs.declared.refusal.Outcome.TheVariants.{Done}
+use Rattle.control_point.specs.declared.refusal.Refusal.TheVariants.{Full}
+use Rattle.control_point.specs.declared.t_mesh_control_point.Side.TheVariants.{Border}
 use Rattle.control_point.specs.declared.t_mesh_control_point.TmeshControlPoint.{TmeshControlPoint}
-use Rattle.store.specs.Store.{with_new, done, make_loose}
+use Rattle.control_point.specs.declared.t_mesh_direction.TmeshDirection.{TmeshDirection}
+use Rattle.store.specs.Store.{store_sides, store_point, with_new, done, refused, make_loose}
+use Rattle.store.specs.Tables.{make_loose_table}
 use Rattle.store.specs.TablesLaws.{loose_told, loose_borders}
 use Rattle.store.specs.declared.store.Changed.{Changed}
 use Rattle.store.specs.declared.store.Store.{Store}
 use Rattle.store.proofs.store.make_loose.Goals as goal
+
+-- the promises beside the equation follow from it
+told_of : (store : Store) (weight : Float) (r : Changed) → r ≡ make_loose store weight → outcome_told r.outcome ≡ make_loose_table store
+told_of store weight r is = ap (λ (x : Changed). outcome_told x.outcome) is ∙ loose_told store weight
+
+abbrev Borders : Store → Float → Changed → Type 0
+Borders store weight r =
+    r.outcome ≡ Done
+    → ((d : TmeshDirection) → store_sides r.store store.made d ≡ Border weight)
+    × (((store_point r.store store.made).s ≡ minus_one) × ((store_point r.store store.made).t ≡ minus_one))
+
+borders_of : (store : Store) (weight : Float) (r : Changed) → length store.points ≡ 128 → r ≡ make_loose store weight → Borders store weight r
+borders_of store weight r room is = subst (Borders store weight) (sym is) (loose_borders store weight room)
 
 -- a loose point stored under the next number
 made_stored : (store : Store) (weight : Float) (place : ℕ) (point : TmeshControlPoint) → place ≡ store.made → point ≡ loose_point weight
@@ -22,9 +40,22 @@ made_stored store weight place point p l = rw (p, l)
 pub returns-then-made-ge128 : goal.returns-then-made-ge128
 unfolding make_loose
 returns-then-made-ge128 c =
-    let all = ((let a = c.args in ((simp (le-ltb c.args.store.made 128 (omega arith))), (ap (λ (x : Changed). outcome_told x.outcome) (simp (le-ltb c.args.store.made 128 (omega arith))) ∙ loose_told a.store a.weight, subst (Borders c) (sym (simp (le-ltb c.args.store.made 128 (omega arith)))) (loose_borders a.store a.weight ((sym (length-map c.args.store.points _) ∙ c.well_formed.0.1.1.0.1.0.1))))))) in record { is = all.0; told = all.1.0; borders = all.1.1 }
+    let store = c.args.store in
+    let is : refused store Full ≡ make_loose store c.args.weight = simp (le-ltb store.made 128 (omega arith)) in
+    record {
+      is = is;
+      told = told_of store c.args.weight _ is;
+      borders = borders_of store c.args.weight _ c.well_formed.0.1.1.0.1.0.1 is;
+    }
 
 pub returns : goal.returns
 unfolding make_loose
 returns c =
-    let all = ((let a = c.args in ((simp (lt-ltb _ _ c.if-made-ge128.false) (made_stored c.args.store c.args.weight _ _ c.wide.ensures c.loose_point.ensures)), (ap (λ (x : Changed). outcome_told x.outcome) (simp (lt-ltb _ _ c.if-made-ge128.false) (made_stored c.args.store c.args.weight _ _ c.wide.ensures c.loose_point.ensures)) ∙ loose_told a.store a.weight, subst (Borders c) (sym (simp (lt-ltb _ _ c.if-made-ge128.false) (made_stored c.args.store c.args.weight _ _ c.wide.ensures c.loose_point.ensures))) (loose_borders a.store a.weight ((sym (length-map c.args.store.points _) ∙ c.well_formed.0.1.1.0.1.0.1))))))) in record { is = all.0; told = all.1.0; borders = all.1.1 }
+    let store = c.args.store in
+    let is : done (record { points = set store.points c.wide.result c.loose_point.result; made = store.made + 1 }) ≡ make_loose store c.args.weight =
+    simp (lt-ltb _ _ c.if-made-ge128.false) (made_stored store c.args.weight _ _ c.wide.ensures c.loose_point.ensures) in
+    record {
+      is = is;
+      told = told_of store c.args.weight _ is;
+      borders = borders_of store c.args.weight _ c.well_formed.0.1.1.0.1.0.1 is;
+    }

@@ -1,7 +1,5 @@
 -- `read_point` meets its contract: a made number has room.
 use mathlib.Core.Path.{◌∙◌, sym}
-use mathlib.Core.Bool.{true}
-use Rattle.control_point.specs.Point.{is_made}
 use Rattle.control_point.specs.PointLaws.{is_made_room}
 use Rattle.store.proofs.store.read_point.Goals as goal
 

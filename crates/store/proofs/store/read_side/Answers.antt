@@ -1,7 +1,5 @@
 -- `read_side` meets its contract: a made number has room, and so the sides of its point.
 use mathlib.Core.Path.{◌∙◌, sym}
-use mathlib.Core.Bool.{true}
-use Rattle.control_point.specs.Point.{is_made}
 use Rattle.control_point.specs.PointLaws.{is_made_room}
 use Rattle.control_point.specs.Told.{side_told}
 use Rattle.control_point.specs.ToldLaws.{beside}
