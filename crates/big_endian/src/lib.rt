@@ -140,16 +140,23 @@ fn put_of_width(buffer: &mut [u8], at: usize, width: usize, number: u64)
     let mut rest = number;
     while 0 < left {
         left -= 1;
-        put_after(buffer, at, left, (rest % 256) as u8);
+        let byte = (rest % 256) as u8;
+        put_after(buffer, at, left, byte);
         rest /= 256;
     }
 }
 
-// Writes a number into the eight bytes from a place on.
+// Writes a number into the eight bytes from a place on, the last byte first.
 pub fn put_number(buffer: &mut [u8], at: usize, number: u64)
     ensures { buffer.new ≡ written buffer.old at (bytes_of 8 number) }
 {
-    put_of_width(buffer, at, 8, number)
+    let mut left: usize = 8;
+    let mut rest = number;
+    while 0 < left {
+        left -= 1;
+        put_after(buffer, at, left, (rest % 256) as u8);
+        rest /= 256;
+    }
 }
 
 // Writes a length into the four bytes from a place on.
