@@ -25,10 +25,10 @@ use Rattle.cells.specs.declared.CellAnswer.TheVariants.{Is, Refused}
 use Rattle.calls.specs.WithdrawalLaws.{by_either_rule}
 use Rattle.soundness.specs.IndexProof.{is_words, every_answer_says}
 use Rattle.soundness.specs.MapCalls.{entries}
-use Rattle.map_format.specs.Format.{border_at, edits_at, file_withdraws, edit_count, Edit, edits_from, corner_of, checked_file}
+use Rattle.map_format.specs.Format.{border_at, edits_at, file_withdraws, edit_count, Edit, edits_from, checked_file}
 use Rattle.counted_file.specs.declared.FileCheck.{FileCheck}
 use Rattle.counted_file.specs.declared.FileCheck.TheVariants.{Valid, Refused as NotValid}
-use Rattle.map_file.specs.Run.{fresh_map, edited, after_edits, file_map}
+use Rattle.map_file.specs.Run.{corner_of, fresh_map, edited, after_edits, file_map}
 use Rattle.map_file.specs.RunLaws.{none_after}
 use Rattle.map_cell.specs.FileCell.{checked_cell, file_cell}
 use Rattle.cell_bytes.specs.CellBytes.{cell_bytes, bytes_of_cell}

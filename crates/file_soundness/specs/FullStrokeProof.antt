@@ -1,16 +1,18 @@
 -- The bound for files: a file's edits and one set-point are a list of calls, to which the bound over lists applies; what the call wrote of its answer is read
 -- back as it was.
 use Rattle.std.specs.Prelude.{ℕ, ◌≤◌, ◌<◌, ◌≡◌, refl, Bool, true, false, cond, T, leb, Float, length}
-use Rattle.std.proofs.Common.{sym, ap, arith, leb→le, lit<, length-append}
+use Rattle.std.proofs.Common.{sym, ap, ◌∙◌, arith, leb→le, lit<, length-append}
 use Rattle.std.proofs.Math.Path.{subst}
 use mathlib.Core.List.{List, [], ◌∷◌, ◌++◌, append_assoc}
 use Rattle.std.specs.Float.{binary64}
 use Rattle.std.specs.Float.Ieee.{of_bits, to_bits, le, fits}
+use Rattle.std.specs.Float.Ieee.Bits.{to_bits-lt}
 use Rattle.std.specs.Float.Ieee.Fits.{div-fits}
+use Rattle.float64.specs.BitsLaws.{read_back}
 use Rattle.float64.specs.Sign.{0f}
 use Rattle.big_endian.specs.BigEndian.{float_at}
-use Rattle.big_endian.specs.ReadBackLaws.{float_back}
-use Rattle.big_endian.specs.Written.{written, bytes_of_float}
+use Rattle.big_endian.specs.ReadBackLaws.{number_back}
+use Rattle.big_endian.specs.Written.{written}
 use Rattle.big_endian.specs.WrittenLaws.{length_bytes}
 use Rattle.control_point.specs.Refusal.{refusal_number}
 use Rattle.control_point.specs.Small.{millionth}
@@ -32,11 +34,11 @@ use Rattle.calls.specs.FullStroke.{InUnit, InUnitAt, Each, DoneInUnit as CallDon
 use Rattle.calls.specs.FullStrokeProof.{never_past_full_stroke}
 use Rattle.counting.specs.BoolLaws.{cond_case}
 use Rattle.soundness.specs.MapCalls.{answer_told}
-use Rattle.map_format.specs.Format.{border_at, edits_at, file_withdraws, edit_count, version_of, is_version, Edit, edits_from, corner_of, length_right, headings_right, checked_file}
-use Rattle.map_file.specs.Run.{fresh_map, edited, after_edits, edit_answers, edit_numbers, file_map, file_numbers, checked_set_point, file_set_point}
+use Rattle.map_format.specs.Format.{border_at, edits_at, file_withdraws, edit_count, version_of, is_version, Edit, edits_from, length_right, headings_right, checked_file}
+use Rattle.map_file.specs.Run.{corner_of, fresh_map, edited, after_edits, edit_answers, edit_numbers, file_map, file_numbers, checked_set_point, file_set_point}
 use Rattle.counted_file.specs.declared.FileCheck.{FileCheck}
 use Rattle.counted_file.specs.declared.FileCheck.TheVariants.{Valid, Refused as NotValid}
-use Rattle.value_bytes.specs.Value.{bytes_of_value}
+use Rattle.value_bytes.specs.Value.{bits_of, bytes_of_value}
 use Rattle.gatemap_host.specs.SetPoint.{host_answer, buffer_after}
 use Rattle.file_soundness.specs.CallsLaws.{calls_of}
 use Rattle.file_soundness.specs.Theorems.{DoneInUnit, place_of, map_of, FileNeverPastFullStroke}
@@ -126,12 +128,17 @@ numbered Ticks h = omega arith
 numbered Doubled h = omega arith
 
 -- ---- the buffer
+-- a float that was written is read back
+float_back : (x : Float) (before rest out : List ℕ) → T (fits binary64 x) → length (before ++ (bits_of x ++ rest)) ≤ length out
+    → float_at (written out 0 (before ++ (bits_of x ++ rest))) (length before) ≡ x
+float_back x before rest out fit room = ap (of_bits binary64) (number_back 8 (to_bits binary64 x) before rest out (to_bits-lt binary64 x fit) room) ∙ read_back x fit
+
 length_value : (value : Evaluation) → length (bytes_of_value value) ≡ 32
 length_value value =
-    let x = bytes_of_float value.x in
-    let y = bytes_of_float value.y in
-    let z = bytes_of_float value.z in
-    let w = bytes_of_float value.weight in
+    let x = bits_of value.x in
+    let y = bits_of value.y in
+    let z = bits_of value.z in
+    let w = bits_of value.weight in
     omega (
       arith,
       length-append x (y ++ (z ++ w)),
@@ -146,20 +153,20 @@ length_value value =
 written_back : (axis : Axis) (value : Evaluation) (out : List ℕ) → T (fits binary64 (on_axis axis value)) → 32 ≤ length out
     → float_at (written out 0 (bytes_of_value value)) (place_of axis) ≡ on_axis axis value
 written_back X value out fit room =
-    float_back value.x [] (bytes_of_float value.y ++ (bytes_of_float value.z ++ bytes_of_float value.weight)) out fit (subst (λ (n : ℕ). n ≤ length out) (sym (length_value value)) room)
+    float_back value.x [] (bits_of value.y ++ (bits_of value.z ++ bits_of value.weight)) out fit (subst (λ (n : ℕ). n ≤ length out) (sym (length_value value)) room)
 written_back Y value out fit room =
     subst (λ (place : ℕ). float_at (written out 0 (bytes_of_value value)) place ≡ value.y) (length_bytes 8 (to_bits binary64 value.x))
-    (float_back value.y (bytes_of_float value.x) (bytes_of_float value.z ++ bytes_of_float value.weight) out fit (subst (λ (n : ℕ). n ≤ length out) (sym (length_value value)) room))
+    (float_back value.y (bits_of value.x) (bits_of value.z ++ bits_of value.weight) out fit (subst (λ (n : ℕ). n ≤ length out) (sym (length_value value)) room))
 written_back Z value out fit room =
-    let x = bytes_of_float value.x in
-    let y = bytes_of_float value.y in
-    let rest = bytes_of_float value.z ++ bytes_of_float value.weight in
+    let x = bits_of value.x in
+    let y = bits_of value.y in
+    let rest = bits_of value.z ++ bits_of value.weight in
     let same = append_assoc x y rest in
     let place : length (x ++ y) ≡ 16 =
     omega (arith, length-append x y, length_bytes 8 (to_bits binary64 value.x), length_bytes 8 (to_bits binary64 value.y)) in
     subst (λ (at : ℕ). float_at (written out 0 (bytes_of_value value)) at ≡ value.z) place
     (subst (λ (text : List ℕ). float_at (written out 0 text) (length (x ++ y)) ≡ value.z) same
-    (float_back value.z (x ++ y) (bytes_of_float value.weight) out fit
+    (float_back value.z (x ++ y) (bits_of value.weight) out fit
     (subst (λ (text : List ℕ). length text ≤ length out) (sym same) (subst (λ (n : ℕ). n ≤ length out) (sym (length_value value)) room))))
 
 -- ---- the call

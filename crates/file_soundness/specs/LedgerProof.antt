@@ -13,8 +13,8 @@ use Rattle.soundness.specs.MapCalls.{map_after_all, entries}
 use Rattle.ledger.specs.Ledger.{entered_before, entered}
 use Rattle.ledger.specs.Theorem.{entered_answers, HasLedger}
 use Rattle.ledger.specs.TheoremProof.{ledger_of_sides}
-use Rattle.map_format.specs.Format.{border_at, edits_at, file_withdraws, Edit, edits_from, corner_of}
-use Rattle.map_file.specs.Run.{fresh_map, edited, edit_answers, file_map, file_numbers}
+use Rattle.map_format.specs.Format.{border_at, edits_at, file_withdraws, Edit, edits_from}
+use Rattle.map_file.specs.Run.{corner_of, fresh_map, edited, edit_answers, file_map, file_numbers}
 use Rattle.report_lines.specs.Lines.{edit_lines, counts_line, open_lines, mid_line}
 use Rattle.gatemap_host.specs.SetPoint.{host_answer}
 use Rattle.file_soundness.specs.CallsLaws.{calls_of, edits_are_calls}

@@ -18,8 +18,8 @@ use Rattle.load.specs.Load.{load_file, load_answer, load_buffer}
 use Rattle.load.specs.LoadLaws.{load_case}
 use Rattle.load.specs.Theorems.{PositionInUnit, EditsInUnit}
 use Rattle.load.specs.TheoremsProof.{load_is_read, load_in_unit, length_load, load_at_front}
-use Rattle.map_format.specs.Format.{border_at, most_edits, Edit, corner_of, edit_count, edits_of, file_length, checked_file}
-use Rattle.map_file.specs.Run.{file_numbers}
+use Rattle.map_format.specs.Format.{border_at, most_edits, Edit, edit_count, edits_of, file_length, checked_file}
+use Rattle.map_file.specs.Run.{corner_of, file_numbers}
 use Rattle.map_format.specs.declared.format.Head.{Head}
 use Rattle.map_writing.specs.Answer.{write_told, length_or_number, buffer_with}
 use Rattle.map_writing.specs.declared.WriteAnswer.{WriteAnswer}

@@ -17,8 +17,8 @@ use Rattle.t_mesh.specs.declared.t_mesh.Tmesh.{Tmesh}
 use Rattle.soundness.specs.MapCalls.{entries}
 use Rattle.soundness.specs.Theorems.{OneOf}
 use Rattle.soundness.specs.EveryMapProof.{set_point_numbers, question_refusals}
-use Rattle.map_format.specs.Format.{border_at, edits_at, file_withdraws, edit_count, version_of, is_version, edits_from, corner_of, length_right, headings_right, checked_file}
-use Rattle.map_file.specs.Run.{fresh_map, file_map, checked_set_point, file_set_point}
+use Rattle.map_format.specs.Format.{border_at, edits_at, file_withdraws, edit_count, version_of, is_version, edits_from, length_right, headings_right, checked_file}
+use Rattle.map_file.specs.Run.{corner_of, fresh_map, file_map, checked_set_point, file_set_point}
 use Rattle.counted_file.specs.declared.FileCheck.{FileCheck}
 use Rattle.counted_file.specs.declared.FileCheck.TheVariants.{Valid, Refused}
 use Rattle.gatemap_host.specs.SetPoint.{host_answer, buffer_after}

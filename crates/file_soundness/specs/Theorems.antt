@@ -19,8 +19,8 @@ use Rattle.calls.specs.FullStroke.{InUnit, InUnitAt}
 use Rattle.soundness.specs.Theorems.{OneOf}
 use Rattle.ledger.specs.Ledger.{entered, counts_by, openings_by}
 use Rattle.ledger.specs.Theorem.{HasLedger}
-use Rattle.map_format.specs.Format.{border_at, edits_at, file_withdraws, edit_count, Edit, edits_from, corner_of, checked_file}
-use Rattle.map_file.specs.Run.{edited, after_edits, edit_answers, file_map, file_answers, file_numbers}
+use Rattle.map_format.specs.Format.{border_at, edits_at, file_withdraws, edit_count, Edit, edits_from, checked_file}
+use Rattle.map_file.specs.Run.{corner_of, edited, after_edits, edit_answers, file_map, file_answers, file_numbers}
 use Rattle.counted_file.specs.declared.FileCheck.{FileCheck}
 use Rattle.counted_file.specs.declared.FileCheck.TheVariants.{Valid, Refused}
 use Rattle.report_text.specs.Text.{file_word, newline, refused_text}

@@ -1,9 +1,9 @@
--- Theorems on loads: statements only, with what they speak of. `load_file`, `load_buffer` and `asked_answer` are the definitions that the contracts of the code cite; `checked_file`, `head_of`, `corner_of` and `edits_of`
+-- Theorems on loads: statements only, with what they speak of. `load_file`, `load_buffer` and `asked_answer` are the definitions that the contracts of the code cite; `checked_file`, `head_of`, `head_corner_at` and `edits_of`
 -- say how the reader of a map file takes them.
 use Rattle.std.specs.Prelude.{ℕ, ◌≤◌, ◌<◌, ◌≡◌, Bool, true, not, cond, ◌&&◌, List, [], ◌∷◌, ◌++◌, leb, eqb, length, take, drop}
 use Rattle.counted_file.specs.declared.FileCheck.TheVariants.{Valid}
 use Rattle.float64.specs.Unit.{in_unit}
-use Rattle.map_format.specs.Format.{most_edits, Edit, corner_of, head_of, edits_of, file_length, checked_file}
+use Rattle.map_format.specs.Format.{most_edits, Edit, head_corner_at, head_of, edits_of, file_length, checked_file}
 use Rattle.map_writing.specs.Answer.{write_told, bytes_written}
 use Rattle.map_writing.specs.declared.WriteAnswer.TheVariants.{Is}
 use Rattle.t_mesh.specs.declared.t_mesh.Position.{Position}
@@ -31,7 +31,7 @@ abbrev pub LoadInUnit : Type 0
 LoadInUnit =
     (seed count : ℕ)
     → count ≤ most_edits
-    → ((k : ℕ) → k < 4 → PositionInUnit (corner_of (load_file seed count) k)) × EditsInUnit (edits_of (load_file seed count))
+    → ((k : ℕ) → k < 4 → PositionInUnit (head_corner_at (load_file seed count) k)) × EditsInUnit (edits_of (load_file seed count))
 
 -- ---- THE FILE STANDS AT THE FRONT
 -- Where the call answers a length, the count is at most 1,000, the length is that of the file, the buffer has room for it, and the call leaves the file and behind it what stood there.

@@ -15,7 +15,7 @@ use Rattle.draw.specs.TheoremsProof.{drawn_float_is_exact}
 use Rattle.float64.specs.Literals.{zero_literal, one_literal}
 use Rattle.float64.specs.SignLaws.{literal_zero, literal_one}
 use Rattle.float64.specs.Unit.{in_unit}
-use Rattle.map_format.specs.Format.{most_edits, corner_of, file_length}
+use Rattle.map_format.specs.Format.{most_edits, head_corner_at, file_length}
 use Rattle.map_format.specs.declared.format.Head.{Head}
 use Rattle.map_writing.specs.Answer.{write_told, bytes_written, buffer_with}
 use Rattle.map_writing.specs.LengthLaws.{length_file}
@@ -73,10 +73,10 @@ head_corner head (suc zero) = head.bottom_right
 head_corner head (suc (suc zero)) = head.top_right
 head_corner head (suc (suc (suc k))) = head.top_left
 
-corner_in_unit : (seed count : ℕ) → count ≤ most_edits → (k : ℕ) → k < 4 → PositionInUnit (corner_of (load_file seed count) k)
+corner_in_unit : (seed count : ℕ) → count ≤ most_edits → (k : ℕ) → k < 4 → PositionInUnit (head_corner_at (load_file seed count) k)
 corner_in_unit seed count few k below = subst PositionInUnit (sym (corner_read k below)) (corner k)
   where
-    corner_read : (k : ℕ) → k < 4 → corner_of (load_file seed count) k ≡ head_corner load_head k
+    corner_read : (k : ℕ) → k < 4 → head_corner_at (load_file seed count) k ≡ head_corner load_head k
     corner_read zero h = ap (λ (head : Head). head.bottom_left) (load_is_read seed count few).1
     corner_read (suc zero) h = ap (λ (head : Head). head.bottom_right) (load_is_read seed count few).1
     corner_read (suc (suc zero)) h = ap (λ (head : Head). head.top_right) (load_is_read seed count few).1

@@ -1,23 +1,27 @@
 -- The run of a valid file: the map of its border and corners, and its edits in order, each given the map as the last left it; a refused one is passed over, and
 -- the version says whether a torn one stays or is withdrawn. e is the closeness. What is answered at (s, t) is the set-point of the map that the run leaves.
-use Rattle.std.specs.Prelude.{ℕ, Bool, List, [], ◌∷◌, map, ◌≡◌, Float}
+use Rattle.std.specs.Prelude.{ℕ, ◌+◌, ◌*◌, Bool, List, [], ◌∷◌, map, ◌≡◌, Float}
 use Rattle.big_endian.specs.BigEndian.{float_at}
 use Rattle.insertion.specs.Insert.{answer_number}
 use Rattle.insertion.specs.declared.insertion.InsertAnswer.{InsertAnswer}
 use Rattle.t_mesh.specs.Tmesh.{new_tmesh}
 use Rattle.t_mesh.specs.Insertion.{add_by_rule, mesh_by_rule}
 use Rattle.t_mesh.specs.declared.t_mesh.Mesh.{Mesh}
+use Rattle.t_mesh.specs.declared.t_mesh.Position.{Position}
 use Rattle.t_mesh.specs.declared.t_mesh.Tmesh.{Tmesh}
 use Rattle.t_mesh.specs.declared.add.Added.{Added}
 use Rattle.t_mesh.specs.declared.add.InsertedMesh.{InsertedMesh}
 use Rattle.surface.specs.SetPoint.{set_point}
 use Rattle.surface.specs.declared.evaluation.EvaluationAnswer.{EvaluationAnswer}
 use Rattle.surface.specs.declared.evaluation.EvaluationAnswer.TheVariants.{Refused as NotEvaluated}
-use Rattle.map_format.specs.Format.{border_at, edits_at, file_withdraws, Edit, edits_from, corner_of, checked_file}
+use Rattle.map_format.specs.Format.{border_at, corners_at, position_bytes, edits_at, file_withdraws, position_at, Edit, edits_from, checked_file}
 use Rattle.counted_file.specs.declared.FileCheck.{FileCheck}
 use Rattle.counted_file.specs.declared.FileCheck.TheVariants.{Valid, Refused}
 
 -- ---- the map before the edits
+abbrev pub corner_of : List ℕ → ℕ → Position
+corner_of bytes k = position_at bytes (corners_at + k * position_bytes)
+
 abbrev pub fresh_map : List ℕ → Tmesh
 fresh_map bytes = new_tmesh (float_at bytes border_at) (corner_of bytes 0) (corner_of bytes 1) (corner_of bytes 2) (corner_of bytes 3)
 

@@ -22,9 +22,9 @@ use Rattle.t_mesh.specs.declared.t_mesh.Position.{Position}
 use Rattle.t_mesh.specs.declared.t_mesh.Tmesh.{Tmesh}
 use Rattle.surface.specs.SetPoint.{set_point}
 use Rattle.surface.specs.declared.evaluation.EvaluationAnswer.TheVariants.{Refused as NotEvaluated}
-use Rattle.map_format.specs.Format.{border_at, edits_at, edit_bytes, file_withdraws, Edit, edit_at, edits_from, corner_of, checked_file}
+use Rattle.map_format.specs.Format.{border_at, edits_at, edit_bytes, file_withdraws, Edit, edit_at, edits_from, checked_file}
 use Rattle.map_format.specs.FormatLaws.{edit_after}
-use Rattle.map_file.specs.Run.{fresh_map, SameEdits, edited, mesh_edited, after_edits, edit_answers, edit_numbers, file_map, file_numbers, checked_set_point, file_set_point}
+use Rattle.map_file.specs.Run.{corner_of, fresh_map, SameEdits, edited, mesh_edited, after_edits, edit_answers, edit_numbers, file_map, file_numbers, checked_set_point, file_set_point}
 use Rattle.counted_file.specs.declared.FileCheck.TheVariants.{Valid, Refused}
 
 -- ---- the map before the edits, by the weight and the corners that were read

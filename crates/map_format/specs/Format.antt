@@ -122,8 +122,8 @@ bytes_of_edits (edit ∷ rest) = bytes_of_edit edit ++ bytes_of_edits rest
 
 -- ---- the whole file
 -- the corner of a number, from 0
-abbrev pub corner_of : List ℕ → ℕ → Position
-corner_of bytes k = position_at bytes (corners_at + k * position_bytes)
+abbrev pub head_corner_at : List ℕ → ℕ → Position
+head_corner_at bytes k = position_at bytes (corners_at + k * position_bytes)
 
 -- what stands between the count and the edits
 abbrev pub head_of : List ℕ → Head
@@ -131,10 +131,10 @@ head_of bytes =
     record {
       version = version_of bytes;
       border = float_at bytes border_at;
-      bottom_left = corner_of bytes 0;
-      bottom_right = corner_of bytes 1;
-      top_right = corner_of bytes 2;
-      top_left = corner_of bytes 3;
+      bottom_left = head_corner_at bytes 0;
+      bottom_right = head_corner_at bytes 1;
+      top_right = head_corner_at bytes 2;
+      top_left = head_corner_at bytes 3;
     }
 
 abbrev pub bytes_of_head : Head → List ℕ
