@@ -5,7 +5,7 @@ use mathlib.Core.Option.{Option, some}
 use Prim.Native.Nat.{ℕ}
 use Rattle.basis_recursion.specs.Exact.{strict}
 use Rattle.basis.specs.Formula.{Arithmetic, formula, sum_of_terms}
-use Rattle.basis.specs.FormulaLaws.{below_knots, above_knots, in_first, in_second, in_third, in_last}
+use Rattle.basis.proofs.FormulaLaws.{below_knots, above_knots, in_first, in_second, in_third, in_last}
 use Rattle.basis_recursion.proofs.Field.{Order}
 use Rattle.basis_recursion.proofs.Place.{Place, before_all, first_gap, second_gap, third_gap, fourth_gap, after_all, Ascending, place}
 

@@ -5,7 +5,7 @@ use mathlib.Core.List.{List}
 use native.Mathlib.Nat.{mod-eq_of_lt}
 use lib.ListN.{set}
 use Rattle.big_endian.specs.Written.{written, bytes_of}
-use Rattle.big_endian.specs.WrittenLaws.{written_number}
+use Rattle.big_endian.proofs.WrittenLaws.{written_number}
 use Rattle.grid_index.specs.declared.Cell.{Cell}
 use Rattle.cell_bytes.specs.CellBytes.{bytes_of_cell}
 

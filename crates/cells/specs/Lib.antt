@@ -1,4 +1,2 @@
 pub mod Cells
 pub mod Table
-pub mod CellsLaws
-pub mod TableLaws

@@ -1,2 +1,1 @@
 pub mod Census
-pub mod CensusLaws

@@ -6,11 +6,11 @@ use lib.Ieee.{Float}
 use Rattle.control_point.specs.Connect.{connectable}
 use Rattle.control_point.specs.Direction.{flip_of}
 use Rattle.control_point.specs.Point.{is_made}
-use Rattle.control_point.specs.PointLaws.{is_made_room}
+use Rattle.control_point.proofs.PointLaws.{is_made_room}
 use Rattle.control_point.specs.declared.refusal.Refusal.TheVariants.{NoPoint}
 use Rattle.control_point.specs.declared.t_mesh_direction.TmeshDirection.{TmeshDirection}
 use Rattle.store.specs.Store.{store_point, linked, refused, settled, connect_points}
-use Rattle.store.specs.StoreLaws.{side_read}
+use Rattle.store.proofs.StoreLaws.{side_read}
 use Rattle.store.specs.declared.store.Store.{Store}
 use Rattle.connection.specs.Connect.{may_connect}
 

@@ -5,8 +5,3 @@ pub mod Point
 pub mod Sides
 pub mod Connect
 pub mod Told
-pub mod DirectionLaws
-pub mod PointLaws
-pub mod SidesLaws
-pub mod ConnectLaws
-pub mod ToldLaws

@@ -9,17 +9,17 @@ use lib.Ieee.{Float}
 use types.Run.{OneOf}
 use denote.Enum.Declared.{tag_of}
 use Rattle.control_point.specs.contracts.t_mesh_control_point.Side.{the_type}
-use Rattle.control_point.specs.PointLaws.{is_made_room}
+use Rattle.control_point.proofs.PointLaws.{is_made_room}
 use Rattle.control_point.specs.Sides.{Sides, sides_with}
 use Rattle.control_point.specs.declared.t_mesh_control_point.Side.{Side}
 use Rattle.control_point.specs.declared.t_mesh_control_point.Side.TheVariants.{Link, Border, Opening}
 use Rattle.control_point.specs.declared.t_mesh_direction.TmeshDirection.{TmeshDirection}
 use Rattle.search.specs.Search.{find_inferred_connection}
-use Rattle.search.specs.SearchLaws.{MayConnect, found_connects}
+use Rattle.search.proofs.SearchLaws.{MayConnect, found_connects}
 use Rattle.search.specs.declared.search.Found.{Found}
 use Rattle.search.specs.declared.search.Found.TheVariants.{At}
 use Rattle.insertion.specs.Insert.{border_or, sought_side, new_side}
-use Rattle.insertion.specs.InsertLaws.{connectable_other}
+use Rattle.insertion.proofs.InsertLaws.{connectable_other}
 use Rattle.insertion.specs.declared.insertion.NewSide.{NewSide}
 use Rattle.insertion.specs.declared.insertion.NewSide.TheVariants.{Takes}
 

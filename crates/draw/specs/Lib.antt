@@ -1,4 +1,2 @@
 pub mod Draw
-pub mod DrawLaws
 pub mod Theorems
-pub mod TheoremsProof

@@ -6,10 +6,5 @@ pub mod Sign
 pub mod Nan
 pub mod Order
 pub mod Rounding
-pub mod SignLaws
-pub mod ProductLaws
-pub mod Monotone
 pub mod Mean
-pub mod MeanLaws
 pub mod Bits
-pub mod BitsLaws

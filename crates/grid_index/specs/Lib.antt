@@ -1,5 +1,3 @@
 pub mod Index
 pub mod Lines
-pub mod IndexLaws
 pub mod CellTheorem
-pub mod CellProof

@@ -1,3 +1,2 @@
 pub mod KnotVector
 pub mod NeverFallingPass
-pub mod NeverFallingPassProof

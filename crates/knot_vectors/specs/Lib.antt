@@ -1,4 +1,2 @@
 pub mod Knots
 pub mod Table
-pub mod KnotsLaws
-pub mod TableLaws

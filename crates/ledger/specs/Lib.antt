@@ -1,11 +1,3 @@
 pub mod Ledger
-pub mod EnteredLaws
 pub mod Theorem
-pub mod PriceLaws
-pub mod ChangeLaws
-pub mod BookingLaws
-pub mod CountedLaws
-pub mod TheoremProof
-pub mod SidesAddUpProof
 pub mod Reading
-pub mod ReadingProof

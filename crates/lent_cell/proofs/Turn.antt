@@ -9,7 +9,7 @@ use borrow.Author.Tests.{eqb-true, eqb-false}
 use lib.Dec.{eqb}
 use lib.Ieee.{Float}
 use Rattle.bit_words.specs.Words.{word_from}
-use Rattle.bit_words.specs.WordsLaws.{word_more, one_shifted}
+use Rattle.bit_words.proofs.WordsLaws.{word_more, one_shifted}
 use Rattle.cells.specs.Cells.{cell_answer_by, cell_points}
 use Rattle.cells.specs.declared.CellAnswer.TheVariants.{Is, Refused}
 use Rattle.control_point.specs.Sides.{lent_sides}
@@ -17,10 +17,10 @@ use Rattle.control_point.specs.declared.refusal.Outcome.TheVariants.{Done, Refus
 use Rattle.control_point.specs.declared.refusal.Refusal.{Refusal}
 use Rattle.grid.specs.Grid.{cell_column, cell_row, reaches}
 use Rattle.grid_index.specs.Index.{knots_in, reaches_cell, index_of, counted, cell_of}
-use Rattle.grid_index.specs.IndexLaws.{cell_is}
+use Rattle.grid_index.proofs.IndexLaws.{cell_is}
 use Rattle.grid_index.specs.Lines.{marked_by}
 use Rattle.knot_vectors.specs.Knots.{AllKnots, all, none, all_knots, keeping, generate_knot_vectors}
-use Rattle.lent_knots.specs.TurnLaws.{FilledTo, filled_none, filled_all, filled_passed, filled_refused, filled_put, filled_row}
+use Rattle.lent_knots.proofs.TurnLaws.{FilledTo, filled_none, filled_all, filled_passed, filled_refused, filled_put, filled_row}
 use Rattle.lent_mesh.specs.LentMesh.{lent_mesh, unkept, lent_map}
 use Rattle.lent_points.specs.Lent.{across_at, upwards_at}
 use Rattle.ray.specs.Knots.{knots_at}

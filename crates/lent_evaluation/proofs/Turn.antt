@@ -12,21 +12,21 @@ use Rattle.control_point.specs.declared.refusal.Outcome.TheVariants.{Done, Refus
 use Rattle.control_point.specs.declared.refusal.Refusal.{Refusal}
 use Rattle.grid_index.specs.Index.{knots_in, index_of}
 use Rattle.knot_vectors.specs.Knots.{AllKnots, all, none, all_knots, keeping, generate_knot_vectors}
-use Rattle.lent_knots.specs.TurnLaws.{FilledTo, filled_none, filled_all, filled_passed, filled_refused, filled_put, filled_row}
+use Rattle.lent_knots.proofs.TurnLaws.{FilledTo, filled_none, filled_all, filled_passed, filled_refused, filled_put, filled_row}
 use Rattle.lent_mesh.specs.LentMesh.{unpulled_at, lent_mesh, unkept, lent_map}
 use Rattle.lent_points.specs.Lent.{across_at, upwards_at}
 use Rattle.ray.specs.Knots.{knots_at}
 use Rattle.ray.specs.declared.knots.KnotsAnswer.{KnotsAnswer}
 use Rattle.ray.specs.declared.knots.PointKnots.{PointKnots}
 use Rattle.surface.specs.Evaluation.{share_by, value_of, answer_by, with_knots, subs_of}
-use Rattle.surface.specs.EvaluationLaws.{Sums, sums_start, sums_end, sums_added, sums_passed}
+use Rattle.surface.proofs.EvaluationLaws.{Sums, sums_start, sums_end, sums_added, sums_passed}
 use Rattle.surface.specs.declared.evaluation.EvaluationAnswer.TheVariants.{Is, Refused}
 use Rattle.surface.specs.declared.evaluation.Share.{Share}
 use Rattle.t_mesh.specs.Tmesh.{no_place, listed_in}
 use Rattle.t_mesh.specs.declared.t_mesh.Mesh.{Mesh}
 use Rattle.t_mesh.specs.declared.t_mesh.Place.{Place}
 use Rattle.t_mesh.specs.declared.t_mesh.Tmesh.{Tmesh}
-use Rattle.values.specs.ValuesLaws.{values_first}
+use Rattle.values.proofs.ValuesLaws.{values_first}
 
 -- ---- what stands at a turn
 -- a mesh as a map that keeps knots

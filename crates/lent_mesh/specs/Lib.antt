@@ -1,3 +1,1 @@
 pub mod LentMesh
-pub mod LentMeshLaws
-pub mod InsertionLaws

@@ -1,4 +1,2 @@
 pub mod Lent
-pub mod LentLaws
 pub mod LentIsSubs
-pub mod LentIsSubsProof

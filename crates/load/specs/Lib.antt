@@ -1,6 +1,3 @@
 pub mod Load
-pub mod LoadLaws
 pub mod Theorems
-pub mod TheoremsProof
 pub mod Readings
-pub mod ReadingsProof

@@ -3,7 +3,7 @@ use Rattle.std.specs.Prelude.{ℕ, ◌+◌, ◌≤◌, List, ◌≡◌, length}
 use Rattle.big_endian.specs.BigEndian.{number_at}
 use Rattle.gatemap_host.specs.LoadCall.{host_load_number}
 use Rattle.load.specs.Load.{load_buffer}
-use Rattle.stored_page.specs.CallLaws.{call_judged}
+use Rattle.stored_page.proofs.CallLaws.{call_judged}
 use Rattle.stored_page.specs.Page.{guard, buffer_of, page_with}
 use Rattle.load_replay.specs.Judged.{count_at, room_at, held_at, load_end, is_stored, call_is_right}
 

@@ -1,2 +1,1 @@
 pub mod FileCell
-pub mod FileCellLaws

@@ -1,4 +1,2 @@
 pub mod Run
 pub mod Table
-pub mod RunLaws
-pub mod TableLaws

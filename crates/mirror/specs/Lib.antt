@@ -1,9 +1,3 @@
 pub mod Mirror
 pub mod Calls
 pub mod Theorems
-pub mod MirrorLaws
-pub mod CallLaws
-pub mod EveryListMirroredProof
-pub mod RefusedUnchangedProof
-pub mod WalkProof
-pub mod RingIsNineProof

@@ -1,1 +1,3 @@
 pub mod Links
+pub mod WalkLaws
+pub mod TableLaws

@@ -6,7 +6,7 @@ use lib.Ieee.{Float}
 use Rattle.control_point.specs.Point.{is_made, is_link, side_refusal}
 use Rattle.control_point.specs.Sides.{Sides}
 use Rattle.navigation.specs.Walk.{step_over, onward}
-use Rattle.navigation.specs.WalkLaws.{onward_ring, onward_step}
+use Rattle.navigation.proofs.WalkLaws.{onward_ring, onward_step}
 use Rattle.control_point.specs.declared.t_mesh_direction.TmeshDirection.{TmeshDirection}
 use Rattle.control_point.specs.declared.t_mesh_control_point.Side.{Side}
 use Rattle.control_point.specs.declared.t_mesh_control_point.Side.TheVariants.{Link, Border, Opening}

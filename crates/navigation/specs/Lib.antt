@@ -1,4 +1,2 @@
 pub mod Walk
 pub mod Table
-pub mod WalkLaws
-pub mod TableLaws

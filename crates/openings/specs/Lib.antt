@@ -1,6 +1,2 @@
 pub mod Openings
 pub mod Theorems
-pub mod PlaceLaws
-pub mod OpeningsLaws
-pub mod OpeningsProof
-pub mod AnswerProof

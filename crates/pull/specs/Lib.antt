@@ -1,2 +1,1 @@
 pub mod Pull
-pub mod PullLaws

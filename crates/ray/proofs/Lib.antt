@@ -1,1 +1,4 @@
 pub mod Filled
+pub mod RayLaws
+pub mod KnotsLaws
+pub mod TableLaws

@@ -1,4 +1,2 @@
 pub mod Approach
 pub mod Table
-pub mod ApproachLaws
-pub mod TableLaws

@@ -1,4 +1,2 @@
 pub mod Entry
 pub mod Table
-pub mod EntryLaws
-pub mod TableLaws

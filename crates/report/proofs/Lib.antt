@@ -1,1 +1,4 @@
 pub mod ReportLaws
+pub mod LengthLaws
+pub mod ReportFitsProof
+pub mod SameOpenLinesProof

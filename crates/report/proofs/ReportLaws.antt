@@ -11,7 +11,7 @@ use Rattle.control_point.specs.Point.{is_link}
 use Rattle.control_point.specs.declared.t_mesh_direction.TmeshDirection.TheVariants.{Up, Right}
 use Rattle.t_mesh.specs.Tmesh.{store_of}
 use Rattle.t_mesh.specs.declared.t_mesh.Tmesh.{Tmesh}
-use Rattle.counting.specs.CountLaws.{count_few}
+use Rattle.counting.proofs.CountLaws.{count_few}
 use Rattle.census.specs.Census.{has_side, counts_of}
 use Rattle.census.specs.declared.census.Counts.{Counts}
 use Rattle.map_format.specs.Format.{checked_file}
@@ -19,7 +19,7 @@ use Rattle.counted_file.specs.declared.FileCheck.{FileCheck}
 use Rattle.report_text.specs.Put.{Put, Fits}
 use Rattle.report_text.specs.Text.{printed_below}
 use Rattle.report.specs.Report.{checked_report, report_of}
-use Rattle.report.specs.ReportFitsProof.{report_fits}
+use Rattle.report.proofs.ReportFitsProof.{report_fits}
 
 -- ---- the numbers noted
 written_sets : (buffer : List ℕ) (at : ℕ) (bytes : List ℕ) → written buffer at bytes ≡ sets buffer at bytes

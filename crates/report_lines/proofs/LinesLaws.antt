@@ -7,9 +7,9 @@ use native.Mathlib.Omega.{arith}
 use lib.ListN.{length, get_or, drop, length-append, drop_of_length-le}
 use lib.Seq.{drop-cons}
 use Rattle.big_endian.specs.Written.{written}
-use Rattle.big_endian.specs.WrittenLaws.{written_append, length_written}
+use Rattle.big_endian.proofs.WrittenLaws.{written_append, length_written}
 use Rattle.openings.specs.Openings.{PointSide, direction_entry, openings_answer}
-use Rattle.openings.specs.OpeningsLaws.{no_side, answer_point, answer_direction}
+use Rattle.openings.proofs.OpeningsLaws.{no_side, answer_point, answer_direction}
 use Rattle.openings.specs.declared.list.Openings.{Openings}
 use Rattle.report_text.specs.Put.{Put, Fits}
 use Rattle.report_lines.specs.Lines.{edit_line, edit_lines, open_line, open_lines}

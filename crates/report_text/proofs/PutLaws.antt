@@ -7,7 +7,7 @@ use native.Mathlib.Omega.{arith}
 use lib.ListN.{length, get_or, set, take, length-append}
 use lib.Seq.{take-suc, take-length, length-take-le}
 use Rattle.big_endian.specs.Written.{written}
-use Rattle.big_endian.specs.WrittenLaws.{written_append}
+use Rattle.big_endian.proofs.WrittenLaws.{written_append}
 use Rattle.report_text.specs.Put.{Put, Fits}
 
 -- nothing

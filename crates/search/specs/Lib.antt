@@ -1,4 +1,2 @@
 pub mod Search
 pub mod Table
-pub mod SearchLaws
-pub mod TableLaws

@@ -1,2 +1,1 @@
 pub mod LentSetPoints
-pub mod LentSetPointsProof

@@ -1,4 +1,2 @@
 pub mod Store
 pub mod Tables
-pub mod StoreLaws
-pub mod TablesLaws

@@ -3,7 +3,7 @@ use Rattle.std.specs.Prelude.{ℕ, ◌+◌, ◌-◌, ◌<◌, Bool, ◌&&◌, Li
 use Rattle.std.proofs.Common.{sym, ap, subst, ◌∙◌, add-one, arith, drop-drop}
 use Rattle.store.specs.declared.store.Store.{Store}
 use Rattle.stored_calls.specs.Call.{replay_call}
-use Rattle.stored_calls.specs.CallLaws.{call_short}
+use Rattle.stored_calls.proofs.CallLaws.{call_short}
 use Rattle.stored_calls.specs.declared.call.Replayed.{Replayed}
 use Rattle.big_endian.specs.BigEndian.{byte_at}
 use Rattle.store_replay.specs.List.{onward, is_store, calls_are_right}

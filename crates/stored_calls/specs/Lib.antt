@@ -1,4 +1,2 @@
 pub mod Points
-pub mod PointsLaws
 pub mod Call
-pub mod CallLaws

@@ -1,4 +1,2 @@
 pub mod Call
-pub mod CallLaws
 pub mod Page
-pub mod PageLaws

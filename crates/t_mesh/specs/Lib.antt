@@ -1,3 +1,2 @@
 pub mod Tmesh
 pub mod Insertion
-pub mod InsertionLaws

@@ -3,7 +3,7 @@ use Prim.Native.Nat.{ℕ}
 use mathlib.Core.Path.{◌≡◌, sym, ◌∙◌}
 use mathlib.Core.List.{List}
 use Rattle.big_endian.specs.Written.{written}
-use Rattle.big_endian.specs.WrittenLaws.{written_number}
+use Rattle.big_endian.proofs.WrittenLaws.{written_number}
 use Rattle.surface.specs.declared.evaluation.Evaluation.{Evaluation}
 use Rattle.value_bytes.specs.Value.{bits_of, bytes_of_value}
 

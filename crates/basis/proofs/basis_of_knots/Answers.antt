@@ -3,7 +3,7 @@ use mathlib.Core.Logic.{⊎_elim}
 use mathlib.Core.Path.{sym, ap, ◌∙◌}
 use lib.Ieee.{binary64, mul, of_bits}
 use Rattle.basis.specs.Binary64.{binary64_arithmetic}
-use Rattle.basis.specs.FormulaLaws.{below_knots, above_knots, in_first, in_second, in_third, in_last}
+use Rattle.basis.proofs.FormulaLaws.{below_knots, above_knots, in_first, in_second, in_third, in_last}
 use Rattle.basis.proofs.basis_of_knots.Goals as goal
 
 pub returns-then-u-a : goal.returns-then-u-a

@@ -5,7 +5,7 @@ use mathlib.Core.List.{List}
 use native.Mathlib.Omega.{arith}
 use lib.ListN.{length, length-set}
 use Rattle.big_endian.specs.Written.{written, bytes_of}
-use Rattle.big_endian.specs.WrittenLaws.{written_more}
+use Rattle.big_endian.proofs.WrittenLaws.{written_more}
 use Rattle.big_endian.proofs.put_of_width.Goals as goal
 
 pub loop-left-preserved : goal.loop-left-preserved

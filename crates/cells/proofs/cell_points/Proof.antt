@@ -1,10 +1,10 @@
 -- `cell_points` meets its contract: the index that it reads is that of the map whose knots are ready.
 use Rattle.control_point.specs.Small.{millionth}
-use Rattle.control_point.specs.ToldLaws.{beside}
+use Rattle.control_point.proofs.ToldLaws.{beside}
 use borrow.Author.Rules.{rules}
 use Rattle.cells.specs.Cells.{cell_told}
-use Rattle.cells.specs.CellsLaws.{asked_ready}
-use Rattle.cells.specs.TableLaws.{cell_points_told}
+use Rattle.cells.proofs.CellsLaws.{asked_ready}
+use Rattle.cells.proofs.TableLaws.{cell_points_told}
 use Rattle.cells.specs.declared.Asked.{Asked}
 use Rattle.cells.proofs.cell_points.Statement.{statement}
 use Rattle.cells.proofs.cell_points.Tie as tie

@@ -5,7 +5,7 @@ use lib.ListN.{length}
 use borrow.Author.Rules.{rules}
 use Rattle.big_endian.specs.BigEndian.{number_at}
 use Rattle.counted_file.specs.Counted.{count_bytes}
-use Rattle.counted_file.specs.CountedLaws.{head_missing, count_wrong, part_left, items_decide}
+use Rattle.counted_file.proofs.CountedLaws.{head_missing, count_wrong, part_left, items_decide}
 use Rattle.counted_file.proofs.counted_right.Statement.{statement}
 use Rattle.counted_file.proofs.counted_right.Tie as tie
 

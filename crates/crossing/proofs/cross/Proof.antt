@@ -3,7 +3,7 @@ use mathlib.Core.Path.{◌≡◌, ◌∙◌, sym, ap}
 use Rattle.control_point.specs.Sides.{Sides, lent_sides}
 use Rattle.control_point.specs.declared.t_mesh_control_point.Side.TheVariants.{Border, Opening}
 use Rattle.lent_points.specs.Lent.{Points, points_with_side, points_linked, lent_points}
-use Rattle.lent_points.specs.LentLaws.{lent_side}
+use Rattle.lent_points.proofs.LentLaws.{lent_side}
 use Rattle.search.specs.Search.{find_inferred_connection}
 use Rattle.crossing.proofs.Told.{new_border, new_sought, found_room, found_apart}
 use Rattle.insertion.specs.Insert.{new_side, sought_side}

@@ -1,6 +1,6 @@
 -- A pattern is a NaN's exactly where, without its sign, it is above the infinity's, and 0.0 / 0.0 is the NaN.
 use Rattle.std.proofs.Common.{sym, ◌∙◌, arith}
-use Rattle.float64.specs.BitsLaws.{above_infinity, up_to_infinity, zero_by_zero}
+use Rattle.float64.proofs.BitsLaws.{above_infinity, up_to_infinity, zero_by_zero}
 use Rattle.float64.proofs.from_bits.Goals as goal
 
 pub float_from_bits-result : goal.float_from_bits-result

@@ -4,7 +4,7 @@ use Rattle.std.specs.Float.{binary64}
 use Rattle.std.specs.Float.Ieee.{to_bits}
 use lib.Ieee.Compare.{differs_from_itself}
 use Rattle.float64.specs.Nan.{equals_itself}
-use Rattle.float64.specs.BitsLaws.{nan_written}
+use Rattle.float64.proofs.BitsLaws.{nan_written}
 use Rattle.float64.proofs.to_bits.Goals as goal
 
 pub float_to_bits-result : goal.float_to_bits-result

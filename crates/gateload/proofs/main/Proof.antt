@@ -5,7 +5,7 @@ use native.Mathlib.Omega.{arith}
 use lib.ListN.{length, take}
 use lib.Seq.{length-take-le}
 use borrow.Author.Rules.{rules}
-use Rattle.load.specs.LoadLaws.{asked_fits}
+use Rattle.load.proofs.LoadLaws.{asked_fits}
 use Rattle.map_format.specs.Format.{most_edits, file_length}
 use Rattle.map_writing.specs.Answer.{bytes_written}
 use Rattle.gateload.proofs.main.Statement.{statement}

@@ -5,7 +5,7 @@ use native.Mathlib.Omega.{arith}
 use lib.ListN.{length, take}
 use lib.Seq.{length-take-le}
 use borrow.Author.Rules.{rules}
-use Rattle.report.specs.ReportFitsProof.{report_fits}
+use Rattle.report.proofs.ReportFitsProof.{report_fits}
 use Rattle.gatemap.proofs.main.Statement.{statement}
 use Rattle.gatemap.proofs.main.Tie as tie
 

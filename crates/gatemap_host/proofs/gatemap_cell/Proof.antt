@@ -2,7 +2,7 @@
 use mathlib.Core.Path.{◌≡◌, sym, ◌∙◌}
 use borrow.Author.Rules.{rules}
 use Rattle.gatemap_host.specs.CellCall.{host_cell_number}
-use Rattle.gatemap_host.specs.CellCallLaws.{host_cell_with}
+use Rattle.gatemap_host.proofs.CellCallLaws.{host_cell_with}
 use Rattle.gatemap_host.proofs.gatemap_cell.Statement.{statement}
 use Rattle.gatemap_host.proofs.gatemap_cell.Tie as tie
 

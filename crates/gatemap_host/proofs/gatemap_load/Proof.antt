@@ -1,6 +1,6 @@
 -- `gatemap_load` meets its contract: what the load answers gives the number, and what it leaves is the buffer.
 use borrow.Author.Rules.{rules}
-use Rattle.gatemap_host.specs.LoadCallLaws.{host_load_gives}
+use Rattle.gatemap_host.proofs.LoadCallLaws.{host_load_gives}
 use Rattle.gatemap_host.proofs.gatemap_load.Statement.{statement}
 use Rattle.gatemap_host.proofs.gatemap_load.Tie as tie
 

@@ -3,7 +3,7 @@ use mathlib.Core.Path.{◌≡◌, sym, ◌∙◌}
 use borrow.Author.Rules.{rules}
 use Rattle.big_endian.specs.Written.{written}
 use Rattle.gatemap_host.specs.SeasonCall.{host_season_number}
-use Rattle.gatemap_host.specs.SeasonCallLaws.{host_season_with}
+use Rattle.gatemap_host.proofs.SeasonCallLaws.{host_season_with}
 use Rattle.gatemap_host.proofs.gatemap_season.Statement.{statement}
 use Rattle.gatemap_host.proofs.gatemap_season.Tie as tie
 

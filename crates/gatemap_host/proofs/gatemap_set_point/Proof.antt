@@ -2,7 +2,7 @@
 use mathlib.Core.Path.{◌≡◌, sym, ◌∙◌}
 use borrow.Author.Rules.{rules}
 use Rattle.gatemap_host.specs.SetPoint.{host_number}
-use Rattle.gatemap_host.specs.SetPointLaws.{host_with}
+use Rattle.gatemap_host.proofs.SetPointLaws.{host_with}
 use Rattle.gatemap_host.proofs.gatemap_set_point.Statement.{statement}
 use Rattle.gatemap_host.proofs.gatemap_set_point.Tie as tie
 

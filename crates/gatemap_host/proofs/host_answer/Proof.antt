@@ -1,7 +1,7 @@
 -- `host_answer` meets its contract: the length decides between 16 and what the file answers.
 use mathlib.Core.Path.{◌∙◌}
 use borrow.Author.Rules.{rules}
-use Rattle.gatemap_host.specs.SetPointLaws.{answer_short, answer_of_file}
+use Rattle.gatemap_host.proofs.SetPointLaws.{answer_short, answer_of_file}
 use Rattle.gatemap_host.proofs.host_answer.Statement.{statement}
 use Rattle.gatemap_host.proofs.host_answer.Tie as tie
 

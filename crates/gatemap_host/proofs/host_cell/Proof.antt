@@ -1,7 +1,7 @@
 -- `host_cell` meets its contract: the length decides between 16 and what the file answers.
 use mathlib.Core.Path.{◌∙◌}
 use borrow.Author.Rules.{rules}
-use Rattle.gatemap_host.specs.CellCallLaws.{cell_short, cell_of_file}
+use Rattle.gatemap_host.proofs.CellCallLaws.{cell_short, cell_of_file}
 use Rattle.gatemap_host.proofs.host_cell.Statement.{statement}
 use Rattle.gatemap_host.proofs.host_cell.Tie as tie
 

@@ -1,7 +1,7 @@
 -- `host_season` meets its contract: the length decides between 16 and what the season answers.
 use mathlib.Core.Path.{◌∙◌}
 use borrow.Author.Rules.{rules}
-use Rattle.gatemap_host.specs.SeasonCallLaws.{season_short, season_of_file}
+use Rattle.gatemap_host.proofs.SeasonCallLaws.{season_short, season_of_file}
 use Rattle.gatemap_host.proofs.host_season.Statement.{statement}
 use Rattle.gatemap_host.proofs.host_season.Tie as tie
 

@@ -2,9 +2,9 @@
 use Prim.Native.Nat.{ℕ, ◌≤◌, ◌-◌, ◌+◌, ◌*◌}
 use mathlib.Core.Path.{subst}
 use native.Mathlib.Omega.{arith}
-use Rattle.values.specs.ValuesLaws.{StoredTo, stored_none, stored_all}
+use Rattle.values.proofs.ValuesLaws.{StoredTo, stored_none, stored_all}
 use Rattle.grid_index.specs.Lines.{both_word}
-use Rattle.grid_index.specs.IndexLaws.{cells_more}
+use Rattle.grid_index.proofs.IndexLaws.{cells_more}
 use borrow.Author.Rules.{rules}
 use Rattle.grid_index.proofs.cell_words.Statement.{statement}
 use Rattle.grid_index.proofs.cell_words.Tie as tie

@@ -4,7 +4,7 @@ use mathlib.Core.Logic.{⊎_elim}
 use mathlib.Core.Path.{◌≡◌, refl, ◌∙◌, subst}
 use native.Mathlib.Omega.{arith}
 use Rattle.values.specs.Values.{values_from}
-use Rattle.grid_index.specs.IndexLaws.{LinesTo, lines_none, lines_full, lines_marked, lines_passed, index_built}
+use Rattle.grid_index.proofs.IndexLaws.{LinesTo, lines_none, lines_full, lines_marked, lines_passed, index_built}
 use borrow.Author.Rules.{rules}
 use Rattle.grid_index.proofs.index_of.Statement.{statement}
 use Rattle.grid_index.proofs.index_of.Tie as tie

@@ -4,7 +4,7 @@ use mathlib.Core.Path.{◌∙◌, ap₂}
 use native.Mathlib.Omega.{arith}
 use lib.Ieee.{Float}
 use Rattle.grid.specs.Grid.{overlap}
-use Rattle.grid_index.specs.IndexLaws.{MarkedTo, marked_none, marked_more, marked_all}
+use Rattle.grid_index.proofs.IndexLaws.{MarkedTo, marked_none, marked_more, marked_all}
 use borrow.Author.Rules.{rules}
 use Rattle.grid_index.proofs.mark.Statement.{statement}
 use Rattle.grid_index.proofs.mark.Tie as tie

@@ -2,7 +2,7 @@
 use mathlib.Core.Path.{refl}
 use borrow.Author.Rules.{rules}
 use Rattle.control_point.specs.Small.{millionth}
-use Rattle.surface.specs.EvaluationLaws.{ready_kept, ready_built}
+use Rattle.surface.proofs.EvaluationLaws.{ready_kept, ready_built}
 use Rattle.kept_knots.proofs.with_knots.Statement.{statement}
 use Rattle.kept_knots.proofs.with_knots.Tie as tie
 

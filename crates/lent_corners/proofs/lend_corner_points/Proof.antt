@@ -1,6 +1,6 @@
 -- `lend_corner_points` meets its contract: each corner is put under its number.
 use borrow.Author.Rules.{rules}
-use Rattle.lent_mesh.specs.LentMeshLaws.{corners_filled}
+use Rattle.lent_mesh.proofs.LentMeshLaws.{corners_filled}
 use Rattle.lent_corners.proofs.lend_corner_points.Statement.{statement}
 use Rattle.lent_corners.proofs.lend_corner_points.Tie as tie
 

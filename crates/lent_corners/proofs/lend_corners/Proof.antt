@@ -1,7 +1,7 @@
 -- `lend_corners` meets its contract: the points are the four corners, and the rows and the listing are stored whole, then corner by corner.
 use mathlib.Core.Path.{refl}
 use borrow.Author.Rules.{rules}
-use Rattle.lent_mesh.specs.LentMeshLaws.{corner_rows_lem, corners_map}
+use Rattle.lent_mesh.proofs.LentMeshLaws.{corner_rows_lem, corners_map}
 use Rattle.lent_corners.proofs.lend_corners.Statement.{statement}
 use Rattle.lent_corners.proofs.lend_corners.Tie as tie
 

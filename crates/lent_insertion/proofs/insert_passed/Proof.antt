@@ -4,14 +4,14 @@ use mathlib.Core.Path.{◌≡◌, refl, ◌∙◌, sym, ap, subst}
 use mathlib.Core.Bool.{Bool}
 use native.Mathlib.Omega.{arith}
 use Rattle.control_point.specs.Direction.{anti_clockwise_of, flip_of}
-use Rattle.control_point.specs.DirectionLaws.{flip_clockwise}
+use Rattle.control_point.proofs.DirectionLaws.{flip_clockwise}
 use Rattle.control_point.specs.Sides.{lent_sides}
 use Rattle.control_point.specs.declared.t_mesh_direction.TmeshDirection.{TmeshDirection}
 use Rattle.lent_points.specs.Lent.{Points, lent_points}
 use Rattle.lent_insertion.proofs.Told.{torn, untorn}
 use Rattle.insertion.specs.Insert.{new_side, unless_torn, answer_of, checked_link}
 use Rattle.insertion.specs.Lent.{points_with_new, Inserts}
-use Rattle.insertion.specs.LentLaws.{Crossed, inserts_passed}
+use Rattle.insertion.proofs.LentLaws.{Crossed, inserts_passed}
 use Rattle.insertion.specs.declared.insertion.NewSide.{NewSide}
 use Rattle.insertion.specs.declared.insertion.NewSide.TheVariants.{Stays}
 use Rattle.insertion.specs.declared.insertion.Checked.TheVariants.{Passed}

@@ -2,12 +2,12 @@
 use Prim.Native.Nat.{ℕ}
 use mathlib.Core.Path.{◌≡◌, ◌∙◌, sym}
 use lib.Ieee.{Float}
-use Rattle.control_point.specs.PointLaws.{is_made_made}
+use Rattle.control_point.proofs.PointLaws.{is_made_made}
 use Rattle.control_point.specs.Sides.{Sides, lent_sides}
 use Rattle.lent_points.specs.Lent.{lent_points}
 use Rattle.insertion.specs.Insert.{checked_link}
-use Rattle.insertion.specs.InsertLaws.{checked_passes}
-use Rattle.insertion.specs.LentLaws.{inserts_refused}
+use Rattle.insertion.proofs.InsertLaws.{checked_passes}
+use Rattle.insertion.proofs.LentLaws.{inserts_refused}
 use Rattle.insertion.specs.declared.insertion.Checked.TheVariants.{Passed}
 use borrow.Author.Rules.{rules}
 use Rattle.lent_insertion.proofs.insert_point.Statement.{statement}

@@ -9,7 +9,7 @@ use Rattle.control_point.specs.declared.t_mesh_control_point.Side.TheVariants.{L
 use Rattle.control_point.specs.declared.t_mesh_direction.TmeshDirection.{TmeshDirection}
 use Rattle.control_point.specs.Sides.{Sides, lent_sides, sides_with}
 use Rattle.lent_points.specs.Lent.{across_at, upwards_at, coordinates_with, points_from, lent_points}
-use Rattle.lent_points.specs.LentLaws.{from_linked, length_with}
+use Rattle.lent_points.proofs.LentLaws.{from_linked, length_with}
 use borrow.Author.Rules.{rules}
 use Rattle.lent_points.proofs.link.Statement.{statement}
 use Rattle.lent_points.proofs.link.Tie as tie

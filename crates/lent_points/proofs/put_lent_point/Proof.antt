@@ -3,7 +3,7 @@ use mathlib.Core.Path.{◌∙◌, ap}
 use lib.ListN.{length}
 use Rattle.control_point.specs.Sides.{Sides, lent_sides, sides_with_point}
 use Rattle.lent_points.specs.Lent.{points_from, lent_points}
-use Rattle.lent_points.specs.LentLaws.{from_point, length_with}
+use Rattle.lent_points.proofs.LentLaws.{from_point, length_with}
 use borrow.Author.Rules.{rules}
 use Rattle.lent_points.proofs.put_lent_point.Statement.{statement}
 use Rattle.lent_points.proofs.put_lent_point.Tie as tie

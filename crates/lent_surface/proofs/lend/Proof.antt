@@ -3,11 +3,11 @@ use borrow.Author.Rules.{rules}
 use mathlib.Core.Path.{◌≡◌}
 use Rattle.control_point.specs.Small.{millionth}
 use Rattle.control_point.specs.Told.{outcome_told}
-use Rattle.control_point.specs.ToldLaws.{beside}
+use Rattle.control_point.proofs.ToldLaws.{beside}
 use Rattle.t_mesh.specs.declared.t_mesh.Tmesh.{Tmesh}
 use Rattle.knot_vectors.specs.declared.knots.Generated.{Generated}
 use Rattle.lent_surface.specs.Lent.{LentArrays, lent, lend_of, lend_table}
-use Rattle.lent_surface.specs.LentLaws.{none_full, lend_done, lend_refused, lend_told}
+use Rattle.lent_surface.proofs.LentLaws.{none_full, lend_done, lend_refused, lend_told}
 use Rattle.lent_surface.proofs.lend.Statement.{statement}
 use Rattle.lent_surface.proofs.lend.Tie as tie
 

@@ -6,10 +6,10 @@ use native.Mathlib.Omega.{arith}
 use borrow.Author.Rules.{rules}
 use lib.ListN.{length-map}
 use Rattle.t_mesh.specs.Tmesh.{no_place, place_under}
-use Rattle.values.specs.ValuesLaws.{StoredTo, stored_none, stored_more}
+use Rattle.values.proofs.ValuesLaws.{StoredTo, stored_none, stored_more}
 use Rattle.surface.specs.Evaluation.{knots_of}
 use Rattle.lent_surface.specs.Lent.{place_row}
-use Rattle.lent_surface.specs.LentLaws.{all_lent}
+use Rattle.lent_surface.proofs.LentLaws.{all_lent}
 use Rattle.lent_surface.proofs.lend_all.Statement.{statement}
 use Rattle.lent_surface.proofs.lend_all.Tie as tie
 

@@ -1,6 +1,6 @@
 -- `lent_share` meets its contract: the weight is the product of the two basis functions, times the pull.
 use borrow.Author.Rules.{rules}
-use Rattle.surface.specs.EvaluationLaws.{share_by_basis}
+use Rattle.surface.proofs.EvaluationLaws.{share_by_basis}
 use Rattle.lent_surface.specs.Lent.{lent_knots, lent_place}
 use Rattle.lent_surface.proofs.lent_share.Statement.{statement}
 use Rattle.lent_surface.proofs.lent_share.Tie as tie

@@ -4,9 +4,9 @@ use mathlib.Core.Path.{◌≡◌}
 use mathlib.Core.Logic.{⊎_elim}
 use native.Mathlib.Omega.{arith}
 use borrow.Author.Rules.{rules}
-use Rattle.surface.specs.EvaluationLaws.{Sums, sums_start, sums_end, sums_added, sums_passed}
+use Rattle.surface.proofs.EvaluationLaws.{Sums, sums_start, sums_end, sums_added, sums_passed}
 use Rattle.lent_surface.specs.Lent.{held_map}
-use Rattle.lent_surface.specs.LentLaws.{held_share}
+use Rattle.lent_surface.proofs.LentLaws.{held_share}
 use Rattle.lent_surface.proofs.lent_value.Statement.{statement}
 use Rattle.lent_surface.proofs.lent_value.Tie as tie
 

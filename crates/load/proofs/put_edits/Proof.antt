@@ -6,11 +6,11 @@ use native.Mathlib.Omega.{arith}
 use lib.ListN.{length}
 use borrow.Author.Rules.{rules}
 use Rattle.big_endian.specs.Written.{written}
-use Rattle.big_endian.specs.WrittenLaws.{length_written}
+use Rattle.big_endian.proofs.WrittenLaws.{length_written}
 use Rattle.map_format.specs.Format.{edits_at, edit_bytes, most_edits, bytes_of_edit, bytes_of_edits, file_length}
 use Rattle.draw.specs.Draw.{later_draw}
 use Rattle.load.specs.Load.{drawn_edits}
-use Rattle.load.specs.LoadLaws.{put_more}
+use Rattle.load.proofs.LoadLaws.{put_more}
 use Rattle.load.proofs.put_edits.Statement.{statement}
 use Rattle.load.proofs.put_edits.Tie as tie
 

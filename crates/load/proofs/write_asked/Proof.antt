@@ -1,6 +1,6 @@
 -- `write_asked` meets its contract: the input's length is tested first, and its seed and count are handed on.
 use borrow.Author.Rules.{rules}
-use Rattle.load.specs.LoadLaws.{asked_wrongly, asked_rightly_lem}
+use Rattle.load.proofs.LoadLaws.{asked_wrongly, asked_rightly_lem}
 use Rattle.load.proofs.write_asked.Statement.{statement}
 use Rattle.load.proofs.write_asked.Tie as tie
 

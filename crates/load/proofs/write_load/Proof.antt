@@ -1,7 +1,7 @@
 -- `write_load` meets its contract: the tests are made in the order of the definition, and the front and the edits behind it are the file.
 use mathlib.Core.Path.{◌∙◌}
 use borrow.Author.Rules.{rules}
-use Rattle.load.specs.LoadLaws.{no_seed, too_many, too_short, in_full}
+use Rattle.load.proofs.LoadLaws.{no_seed, too_many, too_short, in_full}
 use Rattle.load.proofs.write_load.Statement.{statement}
 use Rattle.load.proofs.write_load.Tie as tie
 

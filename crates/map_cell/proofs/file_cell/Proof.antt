@@ -4,10 +4,10 @@ use mathlib.Core.Path.{◌≡◌, ◌∙◌, sym}
 use Rattle.cells.specs.Cells.{cell_points, cell_told}
 use Rattle.cells.specs.declared.CellAnswer.{CellAnswer}
 use Rattle.control_point.specs.Small.{millionth}
-use Rattle.control_point.specs.ToldLaws.{beside}
+use Rattle.control_point.proofs.ToldLaws.{beside}
 use Rattle.map_file.specs.Run.{file_map}
 use Rattle.map_cell.specs.FileCell.{file_cell, file_cell_table}
-use Rattle.map_cell.specs.FileCellLaws.{cell_valid, cell_refused, file_cell_told}
+use Rattle.map_cell.proofs.FileCellLaws.{cell_valid, cell_refused, file_cell_told}
 use Rattle.map_cell.proofs.file_cell.Statement.{statement}
 use Rattle.map_cell.proofs.file_cell.Tie as tie
 

@@ -3,10 +3,10 @@ use borrow.Author.Rules.{rules}
 use mathlib.Core.Path.{◌∙◌, ap}
 use lib.Ieee.{Float}
 use Rattle.control_point.specs.Small.{millionth}
-use Rattle.control_point.specs.ToldLaws.{beside}
+use Rattle.control_point.proofs.ToldLaws.{beside}
 use Rattle.insertion.specs.Insert.{insert_told}
 use Rattle.t_mesh.specs.Insertion.{insert_into_mesh}
-use Rattle.t_mesh.specs.InsertionLaws.{added_to, added_by_mesh, added_told}
+use Rattle.t_mesh.proofs.InsertionLaws.{added_to, added_by_mesh, added_told}
 use Rattle.t_mesh.specs.declared.add.Added.{Added}
 use Rattle.map_insertion.proofs.add_control_point.Statement.{statement}
 use Rattle.map_insertion.proofs.add_control_point.Tie as tie

@@ -3,11 +3,11 @@ use borrow.Author.Rules.{rules}
 use mathlib.Core.Path.{◌≡◌, sym, ◌∙◌}
 use mathlib.Core.Bool.{true, false}
 use Rattle.control_point.specs.Small.{millionth}
-use Rattle.control_point.specs.ToldLaws.{beside}
+use Rattle.control_point.proofs.ToldLaws.{beside}
 use Rattle.insertion.specs.Insert.{insert_told, is_torn}
 use Rattle.insertion.specs.Table.{insertion_table}
 use Rattle.t_mesh.specs.Insertion.{add_by_rule}
-use Rattle.t_mesh.specs.InsertionLaws.{added_withdrawn, added_untorn, added_told}
+use Rattle.t_mesh.proofs.InsertionLaws.{added_withdrawn, added_untorn, added_told}
 use Rattle.t_mesh.specs.Tmesh.{store_of, is_listed}
 use Rattle.t_mesh.specs.declared.add.Added.{Added}
 use Rattle.map_insertion.proofs.add_or_withdraw.Statement.{statement}

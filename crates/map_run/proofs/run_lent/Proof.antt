@@ -6,7 +6,7 @@ use borrow.Author.Rules.{rules}
 use lib.ListN.{length, set, length-set}
 use Rattle.control_point.specs.Small.{millionth}
 use Rattle.lent_mesh.specs.LentMesh.{lent_map, MeshRoom}
-use Rattle.map_file.specs.RunLaws.{Running, fresh_read, running_first, running_next, running_map, running_notes}
+use Rattle.map_file.proofs.RunLaws.{Running, fresh_read, running_first, running_next, running_map, running_notes}
 use Rattle.map_run.proofs.run_lent.Statement.{statement}
 use Rattle.map_run.proofs.run_lent.Tie as tie
 

@@ -2,14 +2,14 @@
 use borrow.Author.Rules.{rules}
 use mathlib.Core.Path.{◌≡◌, ◌∙◌, sym}
 use Rattle.control_point.specs.Small.{millionth}
-use Rattle.control_point.specs.ToldLaws.{beside}
+use Rattle.control_point.proofs.ToldLaws.{beside}
 use Rattle.surface.specs.Evaluation.{evaluation_told}
 use Rattle.surface.specs.SetPoint.{set_point}
 use Rattle.surface.specs.declared.evaluation.EvaluationAnswer.{EvaluationAnswer}
 use Rattle.map_file.specs.Run.{file_map, file_set_point}
-use Rattle.map_file.specs.RunLaws.{set_point_valid, set_point_refused}
+use Rattle.map_file.proofs.RunLaws.{set_point_valid, set_point_refused}
 use Rattle.map_file.specs.Table.{file_set_point_table}
-use Rattle.map_file.specs.TableLaws.{file_set_point_told}
+use Rattle.map_file.proofs.TableLaws.{file_set_point_told}
 use Rattle.map_set_point.proofs.file_set_point.Statement.{statement}
 use Rattle.map_set_point.proofs.file_set_point.Tie as tie
 

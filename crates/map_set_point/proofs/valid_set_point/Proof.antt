@@ -5,7 +5,7 @@ use borrow.Author.Tests.{not-true, not-false}
 use Rattle.control_point.specs.Small.{millionth}
 use Rattle.map_file.specs.Run.{file_map}
 use Rattle.surface.specs.Evaluation.{subs_of}
-use Rattle.surface.specs.SetPointLaws.{set_point_on, set_point_off}
+use Rattle.surface.proofs.SetPointLaws.{set_point_on, set_point_off}
 use Rattle.surface.specs.declared.evaluation.Evaluated.{Evaluated}
 use Rattle.t_mesh.specs.declared.t_mesh.Tmesh.{Tmesh}
 use Rattle.map_set_point.proofs.valid_set_point.Statement.{statement}

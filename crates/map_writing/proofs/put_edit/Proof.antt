@@ -1,7 +1,7 @@
 -- `put_edit` meets its contract: point, direction, ratio and position written one behind the other are the edit, written at once.
 use mathlib.Core.Path.{◌∙◌}
 use Rattle.map_format.specs.Format.{edit_of}
-use Rattle.map_writing.specs.PutLaws.{put_edit}
+use Rattle.map_writing.proofs.PutLaws.{put_edit}
 use borrow.Author.Rules.{rules}
 use Rattle.map_writing.proofs.put_edit.Statement.{statement}
 use Rattle.map_writing.proofs.put_edit.Tie as tie

@@ -1,6 +1,6 @@
 -- `put_front` meets its contract: the count and the parts of the head, written one behind the other, are the front, written at once.
 use mathlib.Core.Path.{◌∙◌}
-use Rattle.map_writing.specs.PutLaws.{put_front}
+use Rattle.map_writing.proofs.PutLaws.{put_front}
 use borrow.Author.Rules.{rules}
 use Rattle.map_writing.proofs.put_front.Statement.{statement}
 use Rattle.map_writing.proofs.put_front.Tie as tie

@@ -7,16 +7,16 @@ use native.Mathlib.Omega.{arith}
 use borrow.Author.Rules.{rules}
 use borrow.Author.Tests.{not-true, not-false}
 use lib.ListN.{length, length-map, set}
-use Rattle.control_point.specs.PointLaws.{is_made_made, is_made_room, made_is_made}
+use Rattle.control_point.proofs.PointLaws.{is_made_made, is_made_room, made_is_made}
 use Rattle.control_point.specs.declared.t_mesh_control_point.TmeshControlPoint.{TmeshControlPoint}
 use Rattle.lent_points.specs.Lent.{lent_points, Room, Held, FilledTo}
-use Rattle.lent_points.specs.LentLaws.{filled_none, filled_more, held_filled, PackedTo, packed_none, packed_more, held_packed}
+use Rattle.lent_points.proofs.LentLaws.{filled_none, filled_more, held_filled, PackedTo, packed_none, packed_more, held_packed}
 use Rattle.insertion.specs.Insert.{is_refused, insert_point}
 use Rattle.insertion.specs.declared.insertion.Inserted.{Inserted}
 use Rattle.t_mesh.specs.Insertion.{answered_mesh, insert_into_mesh}
 use Rattle.t_mesh.specs.Tmesh.{mesh_store, listed_in}
 use Rattle.t_mesh.specs.declared.t_mesh.Place.{Place}
-use Rattle.t_mesh.specs.InsertionLaws.{placed_made, mesh_refused, mesh_placed}
+use Rattle.t_mesh.proofs.InsertionLaws.{placed_made, mesh_refused, mesh_placed}
 use Rattle.mesh_insertion.proofs.insert_into.Statement.{statement}
 use Rattle.mesh_insertion.proofs.insert_into.Tie as tie
 

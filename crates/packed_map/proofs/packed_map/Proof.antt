@@ -2,7 +2,7 @@
 use borrow.Author.Rules.{rules}
 use Rattle.lent_points.specs.Lent.{lent_points}
 use Rattle.lent_mesh.specs.LentMesh.{unkept}
-use Rattle.lent_mesh.specs.LentMeshLaws.{packed_mesh}
+use Rattle.lent_mesh.proofs.LentMeshLaws.{packed_mesh}
 use Rattle.packed_map.proofs.packed_map.Statement.{statement}
 use Rattle.packed_map.proofs.packed_map.Tie as tie
 

@@ -8,7 +8,7 @@ use Rattle.float64.specs.Literals.{zero_literal}
 use Rattle.t_mesh.specs.Tmesh.{unpulled, no_place, origin}
 use Rattle.t_mesh.specs.declared.t_mesh.Place.{Place}
 use Rattle.lent_mesh.specs.LentMesh.{unpulled_at}
-use Rattle.values.specs.ValuesLaws.{StoredTo, stored_none, stored_more, stored_all}
+use Rattle.values.proofs.ValuesLaws.{StoredTo, stored_none, stored_more, stored_all}
 use Rattle.packed_map.proofs.packed_places.Statement.{statement}
 use Rattle.packed_map.proofs.packed_places.Tie as tie
 

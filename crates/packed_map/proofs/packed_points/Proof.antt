@@ -8,12 +8,12 @@ use borrow.Author.Rules.{rules}
 use borrow.Author.Tests.{eqb-true, eqb-false}
 use lib.Dec.{eqb}
 use lib.ListN.{length, length-replicate, replicate, set}
-use Rattle.control_point.specs.PointLaws.{is_made_room}
+use Rattle.control_point.proofs.PointLaws.{is_made_room}
 use Rattle.control_point.specs.Point.{is_made}
 use Rattle.control_point.specs.declared.t_mesh_control_point.TmeshControlPoint.{TmeshControlPoint}
 use Rattle.lent_points.specs.Lent.{Points, lent_points}
-use Rattle.lent_points.specs.LentLaws.{PackedTo, packed_none, packed_more, made_below}
-use Rattle.lent_mesh.specs.LentMeshLaws.{packed_all}
+use Rattle.lent_points.proofs.LentLaws.{PackedTo, packed_none, packed_more, made_below}
+use Rattle.lent_mesh.proofs.LentMeshLaws.{packed_all}
 use Rattle.packed_map.proofs.packed_points.Statement.{statement}
 use Rattle.packed_map.proofs.packed_points.Tie as tie
 

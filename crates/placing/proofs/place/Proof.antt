@@ -8,7 +8,7 @@ use Rattle.control_point.specs.Sides.{lent_sides, sides_with}
 use Rattle.control_point.specs.declared.t_mesh_control_point.Side.TheVariants.{Opening}
 use Rattle.control_point.specs.declared.t_mesh_direction.TmeshDirection.{TmeshDirection}
 use Rattle.lent_points.specs.Lent.{Points, points_with, points_with_side, points_linked, lent_points}
-use Rattle.lent_points.specs.LentLaws.{lent_side}
+use Rattle.lent_points.proofs.LentLaws.{lent_side}
 use Rattle.insertion.specs.Lent.{points_parted, points_placed}
 use borrow.Author.Rules.{rules}
 use Rattle.placing.proofs.place.Statement.{statement}

@@ -2,7 +2,7 @@
 use mathlib.Core.Path.{sym, ap, ◌∙◌}
 use mathlib.Core.Bool.{Bool, false, ◌&&◌}
 use lib.Ieee.{inf, lt}
-use Rattle.float64.specs.BitsLaws.{infinity}
+use Rattle.float64.proofs.BitsLaws.{infinity}
 use Rattle.pull.proofs.can_pull.Statement.{statement}
 use Rattle.pull.proofs.can_pull.Tie as tie
 

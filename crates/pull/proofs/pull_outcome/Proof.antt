@@ -2,7 +2,7 @@
 use mathlib.Core.Path.{◌∙◌, sym}
 use borrow.Author.Rules.{rules}
 use borrow.Author.Tests.{not-true, not-false}
-use Rattle.pull.specs.PullLaws.{outcome_unmade, outcome_refused, outcome_done}
+use Rattle.pull.proofs.PullLaws.{outcome_unmade, outcome_refused, outcome_done}
 use Rattle.pull.proofs.pull_outcome.Statement.{statement}
 use Rattle.pull.proofs.pull_outcome.Tie as tie
 

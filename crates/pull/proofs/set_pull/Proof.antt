@@ -5,15 +5,15 @@ use native.Mathlib.Omega.{arith}
 use borrow.Author.Rules.{rules}
 use lib.Ieee.{Float}
 use lib.ListN.{set}
-use Rattle.control_point.specs.PointLaws.{is_made_room}
+use Rattle.control_point.proofs.PointLaws.{is_made_room}
 use Rattle.control_point.specs.Told.{outcome_told}
-use Rattle.control_point.specs.ToldLaws.{beside}
+use Rattle.control_point.proofs.ToldLaws.{beside}
 use Rattle.control_point.specs.declared.refusal.Outcome.{Outcome}
 use Rattle.control_point.specs.declared.refusal.Outcome.TheVariants.{Done}
 use Rattle.t_mesh.specs.declared.t_mesh.Place.{Place}
 use Rattle.t_mesh.specs.declared.t_mesh.Tmesh.{Tmesh}
 use Rattle.pull.specs.Pull.{pull_outcome, set_pull, pull_table}
-use Rattle.pull.specs.PullLaws.{done_made, pull_done, pull_refused, pull_told}
+use Rattle.pull.proofs.PullLaws.{done_made, pull_done, pull_refused, pull_told}
 use Rattle.pull.specs.declared.Pulled.{Pulled}
 use Rattle.pull.proofs.set_pull.Statement.{statement}
 use Rattle.pull.proofs.set_pull.Tie as tie

@@ -10,7 +10,7 @@ use Rattle.map_file.specs.Run.{file_map, file_numbers}
 use Rattle.report_text.specs.Put.{Put}
 use Rattle.report_lines.specs.Lines.{edit_lines}
 use Rattle.report.specs.Report.{map_report}
-use Rattle.report.specs.LengthLaws.{file_numbers_length}
+use Rattle.report.proofs.LengthLaws.{file_numbers_length}
 use Rattle.report_text.proofs.PutLaws.{put_then, put_as, fits_first, fits_then, fits_as}
 use Rattle.report.proofs.ReportLaws.{zeros_room, noted}
 use Rattle.report.proofs.put_valid.Statement.{statement}

@@ -1,7 +1,7 @@
 -- `report` meets its contract: what is put is the report by the file's check, and every report fits.
 use mathlib.Core.Path.{sym, ◌∙◌}
 use borrow.Author.Rules.{rules}
-use Rattle.map_format.specs.FormatLaws.{valid_tells}
+use Rattle.map_format.proofs.FormatLaws.{valid_tells}
 use Rattle.report.proofs.ReportLaws.{checked_fits, reported}
 use Rattle.report.proofs.report.Statement.{statement}
 use Rattle.report.proofs.report.Tie as tie

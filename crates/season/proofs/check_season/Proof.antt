@@ -6,12 +6,12 @@ use mathlib.Core.List.{List}
 use native.Mathlib.Omega.{arith}
 use borrow.Author.Rules.{rules}
 use borrow.Author.Tests.{eq-eqb, ne_eqb, not-true, not-false}
-use Rattle.control_point.specs.ToldLaws.{beside}
+use Rattle.control_point.proofs.ToldLaws.{beside}
 use Rattle.counted_file.specs.Counted.{file_told}
-use Rattle.counted_file.specs.CountedLaws.{length_tells}
+use Rattle.counted_file.proofs.CountedLaws.{length_tells}
 use Rattle.counted_file.specs.declared.FileCheck.{FileCheck}
 use Rattle.season.specs.Season.{windows_at, window_bytes, most_windows, window_count, season_length_right, days_wrong, season_version_right, the_version, checked_season, season_table}
-use Rattle.season.specs.SeasonLaws.{check_told}
+use Rattle.season.proofs.SeasonLaws.{check_told}
 use Rattle.season.proofs.check_season.Statement.{statement}
 use Rattle.season.proofs.check_season.Tie as tie
 

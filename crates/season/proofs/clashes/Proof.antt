@@ -4,10 +4,10 @@ use mathlib.Core.Path.{◌≡◌, refl, sym, ap, ◌∙◌}
 use native.Mathlib.Omega.{arith}
 use borrow.Author.Rules.{rules}
 use borrow.Author.Tests.{not-true, not-false}
-use Rattle.counting.specs.SomeLaws.{some_none}
+use Rattle.counting.proofs.SomeLaws.{some_none}
 use Rattle.season_window.specs.Window.{can_hold}
 use Rattle.season.specs.Season.{most_windows, holds_with_one, clashes}
-use Rattle.season.specs.SeasonLaws.{clash_alone, clash_with, clash_before}
+use Rattle.season.proofs.SeasonLaws.{clash_alone, clash_with, clash_before}
 use Rattle.season.proofs.clashes.Statement.{statement}
 use Rattle.season.proofs.clashes.Tie as tie
 

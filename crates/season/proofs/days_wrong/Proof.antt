@@ -3,7 +3,7 @@ use Prim.Native.Nat.{◌≤◌}
 use mathlib.Core.Path.{◌≡◌, refl, sym, ap, ◌∙◌}
 use native.Mathlib.Omega.{arith}
 use borrow.Author.Rules.{rules}
-use Rattle.counting.specs.SomeLaws.{some_none, some_here, some_before}
+use Rattle.counting.proofs.SomeLaws.{some_none, some_here, some_before}
 use Rattle.season_window.specs.Window.{past_day}
 use Rattle.season.specs.Season.{most_windows, days_wrong}
 use Rattle.season.proofs.days_wrong.Statement.{statement}

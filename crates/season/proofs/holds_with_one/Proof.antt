@@ -3,7 +3,7 @@ use Prim.Native.Nat.{◌≤◌}
 use mathlib.Core.Path.{◌≡◌, refl, sym, ap, ◌∙◌}
 use native.Mathlib.Omega.{arith}
 use borrow.Author.Rules.{rules}
-use Rattle.counting.specs.SomeLaws.{some_none, some_here, some_before}
+use Rattle.counting.proofs.SomeLaws.{some_none, some_here, some_before}
 use Rattle.season_window.specs.Window.{hold_together}
 use Rattle.season.specs.Season.{most_windows, holds_with_one}
 use Rattle.season.proofs.holds_with_one.Statement.{statement}

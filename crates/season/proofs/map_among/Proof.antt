@@ -6,7 +6,7 @@ use borrow.Author.Rules.{rules}
 use Rattle.season_window.specs.Window.{holds_at}
 use Rattle.season_window.specs.declared.Window.{Window}
 use Rattle.season.specs.Season.{most_windows, map_among}
-use Rattle.season.specs.SeasonLaws.{map_none, map_here, map_before}
+use Rattle.season.proofs.SeasonLaws.{map_none, map_here, map_before}
 use Rattle.season.specs.declared.SeasonAnswer.TheVariants.{Is}
 use Rattle.season.proofs.map_among.Statement.{statement}
 use Rattle.season.proofs.map_among.Tie as tie

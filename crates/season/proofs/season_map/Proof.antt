@@ -3,9 +3,9 @@ use Prim.Native.Nat.{ℕ}
 use mathlib.Core.Path.{◌≡◌, sym, ap, ◌∙◌}
 use mathlib.Core.List.{List}
 use borrow.Author.Rules.{rules}
-use Rattle.control_point.specs.ToldLaws.{beside}
+use Rattle.control_point.proofs.ToldLaws.{beside}
 use Rattle.season.specs.Season.{checked_map, season_map, season_told, season_map_table}
-use Rattle.season.specs.SeasonLaws.{valid_tells, map_told}
+use Rattle.season.proofs.SeasonLaws.{valid_tells, map_told}
 use Rattle.season.specs.declared.SeasonAnswer.{SeasonAnswer}
 use Rattle.season.proofs.season_map.Statement.{statement}
 use Rattle.season.proofs.season_map.Tie as tie

@@ -1,6 +1,6 @@
 -- `window_of` meets its contract: each number is read at its place behind the first bytes.
 use borrow.Author.Rules.{rules}
-use Rattle.season.specs.SeasonLaws.{window_read}
+use Rattle.season.proofs.SeasonLaws.{window_read}
 use Rattle.season.proofs.window_of.Statement.{statement}
 use Rattle.season.proofs.window_of.Tie as tie
 

@@ -1,6 +1,6 @@
 -- `first_minute` meets its contract: its tests are the definition's.
 use borrow.Author.Rules.{rules}
-use Rattle.season_window.specs.DecisionLaws.{first_today, first_now, first_tomorrow}
+use Rattle.season_window.proofs.DecisionLaws.{first_today, first_now, first_tomorrow}
 use Rattle.season_window.proofs.first_minute.Statement.{statement}
 use Rattle.season_window.proofs.first_minute.Tie as tie
 

@@ -3,10 +3,10 @@ use borrow.Author.Rules.{rules}
 use borrow.Author.Tests.{not-true, not-false}
 use mathlib.Core.Path.{◌≡◌, ◌∙◌, sym, ap}
 use Rattle.control_point.specs.Small.{millionth}
-use Rattle.control_point.specs.ToldLaws.{beside}
+use Rattle.control_point.proofs.ToldLaws.{beside}
 use Rattle.surface.specs.Evaluation.{evaluation_told}
 use Rattle.surface.specs.SetPoint.{set_point, set_point_table}
-use Rattle.surface.specs.SetPointLaws.{set_point_on, set_point_off, set_point_told}
+use Rattle.surface.proofs.SetPointLaws.{set_point_on, set_point_off, set_point_told}
 use Rattle.surface.specs.declared.evaluation.Evaluated.{Evaluated}
 use Rattle.surface.specs.declared.evaluation.EvaluationAnswer.{EvaluationAnswer}
 use Rattle.set_point.proofs.set_point.Statement.{statement}

@@ -1,5 +1,5 @@
 -- `is_weighty` meets its contract: each return picks its case by the first test, and 1.0 / 0.0 is the infinity.
-use Rattle.float64.specs.BitsLaws.{infinity}
+use Rattle.float64.proofs.BitsLaws.{infinity}
 use Rattle.set_point_check.proofs.is_weighty.Statement.{statement}
 use Rattle.set_point_check.proofs.is_weighty.Tie as tie
 

@@ -2,10 +2,10 @@
 use borrow.Author.Rules.{rules}
 use mathlib.Core.Path.{◌∙◌, sym}
 use mathlib.Core.Bool.{true, false}
-use Rattle.control_point.specs.ToldLaws.{beside}
+use Rattle.control_point.proofs.ToldLaws.{beside}
 use Rattle.surface.specs.Evaluation.{evaluation_told}
 use Rattle.surface.specs.SetPoint.{where_weighty, where_weighty_table}
-use Rattle.surface.specs.SetPointLaws.{where_weighty_by, where_weighty_told}
+use Rattle.surface.proofs.SetPointLaws.{where_weighty_by, where_weighty_told}
 use Rattle.set_point_check.proofs.where_weighty.Statement.{statement}
 use Rattle.set_point_check.proofs.where_weighty.Tie as tie
 

@@ -1,7 +1,7 @@
 -- `ledger_holds` meets its contract: the counts are those of the map, and the openings are as many as are listed.
 use mathlib.Core.Path.{refl}
 use Rattle.openings.specs.Openings.{openings_of}
-use Rattle.openings.specs.OpeningsLaws.{answer_count}
+use Rattle.openings.proofs.OpeningsLaws.{answer_count}
 use borrow.Author.Rules.{rules}
 use Rattle.stored_ledger.proofs.ledger_holds.Statement.{statement}
 use Rattle.stored_ledger.proofs.ledger_holds.Tie as tie

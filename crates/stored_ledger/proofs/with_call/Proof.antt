@@ -2,7 +2,7 @@
 use borrow.Author.Rules.{rules}
 use Prim.Native.Nat.{ℕ, ◌<◌, ◌≤◌}
 use mathlib.Core.Path.{◌∙◌, sym, subst}
-use Rattle.stored_ledger.specs.LedgerLaws.{by_insertion, by_withdrawing, by_other, by_direct}
+use Rattle.stored_ledger.proofs.LedgerLaws.{by_insertion, by_withdrawing, by_other, by_direct}
 use Rattle.stored_ledger.proofs.with_call.Statement.{statement}
 use Rattle.stored_ledger.proofs.with_call.Tie as tie
 

@@ -1,7 +1,7 @@
 -- `with_insertion` meets its contract, by the three kinds of numbers.
 use borrow.Author.Rules.{rules}
 use mathlib.Core.Path.{◌∙◌, sym}
-use Rattle.stored_ledger.specs.LedgerLaws.{by_done, by_torn, by_refused}
+use Rattle.stored_ledger.proofs.LedgerLaws.{by_done, by_torn, by_refused}
 use Rattle.stored_ledger.proofs.with_insertion.Statement.{statement}
 use Rattle.stored_ledger.proofs.with_insertion.Tie as tie
 

@@ -1,7 +1,7 @@
 -- `with_withdrawing` meets its contract, by the two kinds of numbers.
 use borrow.Author.Rules.{rules}
 use mathlib.Core.Path.{◌∙◌, sym}
-use Rattle.stored_ledger.specs.LedgerLaws.{by_done_alone, by_not_done}
+use Rattle.stored_ledger.proofs.LedgerLaws.{by_done_alone, by_not_done}
 use Rattle.stored_ledger.proofs.with_withdrawing.Statement.{statement}
 use Rattle.stored_ledger.proofs.with_withdrawing.Tie as tie
 

@@ -1,6 +1,6 @@
 -- `expected_byte` meets its contract: in front of the buffer and behind what it holds the filler is due.
 use borrow.Author.Rules.{rules}
-use Rattle.stored_page.specs.PageLaws.{expected_before, expected_within, expected_behind}
+use Rattle.stored_page.proofs.PageLaws.{expected_before, expected_within, expected_behind}
 use Rattle.stored_page.proofs.expected_byte.Statement.{statement}
 use Rattle.stored_page.proofs.expected_byte.Tie as tie
 

@@ -5,7 +5,7 @@ use native.Mathlib.Omega.{arith}
 use lib.ListN.{length}
 use borrow.Author.Rules.{rules}
 use Rattle.stored_page.specs.Page.{holds_to}
-use Rattle.stored_page.specs.PageLaws.{holds_none, holds_more}
+use Rattle.stored_page.proofs.PageLaws.{holds_none, holds_more}
 use Rattle.stored_page.proofs.page_holds.Statement.{statement}
 use Rattle.stored_page.proofs.page_holds.Tie as tie
 

@@ -3,7 +3,7 @@ use mathlib.Core.Path.{◌≡◌, ◌∙◌, sym}
 use mathlib.Core.Bool.{true, false}
 use borrow.Author.Rules.{rules}
 use Rattle.insertion.specs.Insert.{is_torn}
-use Rattle.insertion.specs.WithdrawalLaws.{inserts_not_withdrawn, inserts_withdrawn}
+use Rattle.insertion.proofs.WithdrawalLaws.{inserts_not_withdrawn, inserts_withdrawn}
 use Rattle.withdrawal.proofs.insert_or_restore.Statement.{statement}
 use Rattle.withdrawal.proofs.insert_or_restore.Tie as tie
 

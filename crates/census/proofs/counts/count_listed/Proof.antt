@@ -6,7 +6,7 @@ use mathlib.Core.Bool.{Bool, false}
 use Prim.Native.Nat.{ℕ, ◌≤◌, ◌-◌, ◌+◌}
 use lib.ListN.{get_or}
 use Rattle.counting.specs.Counting.{count_below}
-use Rattle.counting.specs.CountLaws.{count_none, count_more, count_few}
+use Rattle.counting.proofs.CountLaws.{count_none, count_more, count_few}
 use Rattle.census.proofs.counts.count_listed.Statement.{statement}
 use Rattle.census.proofs.counts.count_listed.Tie as tie
 

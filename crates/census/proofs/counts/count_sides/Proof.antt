@@ -5,7 +5,7 @@ use mathlib.Core.Path.{◌≡◌, ◌∙◌, ap}
 use mathlib.Core.Bool.{cond}
 use Prim.Native.Nat.{ℕ, ◌≤◌, ◌-◌, ◌+◌}
 use Rattle.control_point.specs.Point.{is_made}
-use Rattle.census.specs.CensusLaws.{links_below, borders_below, links_none, borders_none, links_few, borders_few, links_next, borders_next}
+use Rattle.census.proofs.CensusLaws.{links_below, borders_below, links_none, borders_none, links_few, borders_few, links_next, borders_next}
 use Rattle.census.proofs.counts.count_sides.Statement.{statement}
 use Rattle.census.proofs.counts.count_sides.Tie as tie
 

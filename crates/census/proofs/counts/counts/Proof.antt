@@ -6,7 +6,7 @@ use Rattle.control_point.specs.Point.{is_link, is_border}
 use Rattle.control_point.specs.declared.t_mesh_direction.TmeshDirection.TheVariants.{Up, Right}
 use Rattle.store.specs.declared.store.Store.{Store}
 use Rattle.census.specs.Census.{sides_towards, sides_that, counts_of}
-use Rattle.census.specs.CensusLaws.{same_counts}
+use Rattle.census.proofs.CensusLaws.{same_counts}
 use Rattle.census.proofs.counts.counts.Statement.{statement}
 use Rattle.census.proofs.counts.counts.Tie as tie
 

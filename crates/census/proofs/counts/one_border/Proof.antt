@@ -2,7 +2,7 @@
 use borrow.Author.Rules.{rules}
 use mathlib.Core.Path.{◌∙◌, ap}
 use mathlib.Core.Bool.{Bool, cond}
-use Rattle.counting.specs.CountLaws.{one_at_most}
+use Rattle.counting.proofs.CountLaws.{one_at_most}
 use Rattle.control_point.specs.Point.{side_of, is_border}
 use Rattle.census.proofs.counts.one_border.Statement.{statement}
 use Rattle.census.proofs.counts.one_border.Tie as tie

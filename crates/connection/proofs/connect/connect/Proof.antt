@@ -12,7 +12,7 @@ use Rattle.control_point.specs.Told.{outcome_told}
 use Rattle.control_point.specs.declared.t_mesh_control_point.Side.TheVariants.{Link}
 use Rattle.store.specs.Store.{store_sides, store_point, done, linked, settled, connect_points}
 use Rattle.store.specs.Tables.{connect_table}
-use Rattle.store.specs.TablesLaws.{connect_told, connect_links}
+use Rattle.store.proofs.TablesLaws.{connect_told, connect_links}
 use Rattle.store.specs.declared.store.Changed.{Changed}
 use Rattle.store.specs.declared.store.Store.{Store}
 use Rattle.connection.specs.Connect.{may_connect}

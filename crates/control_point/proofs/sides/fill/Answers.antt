@@ -3,7 +3,7 @@ use native.Mathlib.Omega.{arith}
 use mathlib.Core.Path.{subst}
 use Prim.Native.Nat.{ℕ, ◌-◌}
 use Rattle.control_point.specs.Sides.{lent_sides}
-use Rattle.control_point.specs.SidesLaws.{RightTo, right_all}
+use Rattle.control_point.proofs.SidesLaws.{RightTo, right_all}
 use Rattle.control_point.proofs.sides.fill.Goals as goal
 
 pub returns : goal.returns

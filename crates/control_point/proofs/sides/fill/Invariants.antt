@@ -1,7 +1,7 @@
 -- `fill` meets its contract: at each turn the sides of the first n points are right.
 use Prim.Native.Nat.{◌≤◌, ◌-◌}
 use Rattle.control_point.specs.Sides.{lent_sides, Full}
-use Rattle.control_point.specs.SidesLaws.{RightTo}
+use Rattle.control_point.proofs.SidesLaws.{RightTo}
 use Rattle.control_point.proofs.sides.fill.Given as goal
 
 abbrev pub invariant-loop-n : goal.invariant-loop-n

@@ -1,4 +1,4 @@
-use Rattle.control_point.specs.SidesLaws.{put_law, put_full}
+use Rattle.control_point.proofs.SidesLaws.{put_law, put_full}
 use Rattle.control_point.proofs.sides.put_side.Goals as goal
 
 pub returns : goal.returns

@@ -1,7 +1,7 @@
 -- `side_at` meets its contract: the kind that stands at the place says which side is read.
 use borrow.Author.Tests.{le-ltb}
 use Rattle.control_point.specs.Sides.{lent_sides}
-use Rattle.control_point.specs.SidesLaws.{reads_link, reads_border, reads_opening}
+use Rattle.control_point.proofs.SidesLaws.{reads_link, reads_border, reads_opening}
 use Rattle.control_point.proofs.sides.side_at.Goals as goal
 
 pub returns-then-n-ge128 : goal.returns-then-n-ge128

@@ -8,14 +8,14 @@ use lib.Ieee.{Float}
 use lib.ListN.{length, length-map}
 use Rattle.control_point.specs.Direction.{flip_of}
 use Rattle.control_point.specs.Point.{side_of, is_made}
-use Rattle.control_point.specs.PointLaws.{is_made_room}
+use Rattle.control_point.proofs.PointLaws.{is_made_room}
 use Rattle.control_point.specs.Told.{outcome_told}
 use Rattle.control_point.specs.declared.refusal.Outcome.TheVariants.{Done}
 use Rattle.control_point.specs.declared.t_mesh_control_point.Side.TheVariants.{Link, Opening}
 use Rattle.control_point.specs.declared.t_mesh_control_point.TmeshControlPoint.{TmeshControlPoint}
 use Rattle.store.specs.Store.{store_sides, store_point, done, opened, remove_connection}
 use Rattle.store.specs.Tables.{remove_connection_table}
-use Rattle.store.specs.TablesLaws.{removed_told, removed_opens}
+use Rattle.store.proofs.TablesLaws.{removed_told, removed_opens}
 use Rattle.store.specs.declared.store.Changed.{Changed}
 use Rattle.disconnection.proofs.Opened.{opened_settled}
 use Rattle.disconnection.proofs.Stored.{opened_stored}

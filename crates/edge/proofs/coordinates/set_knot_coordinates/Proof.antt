@@ -4,11 +4,11 @@ use mathlib.Core.Bool.{true}
 use borrow.Author.Tests.{not-true, not-false}
 use borrow.Author.Rules.{rules}
 use Rattle.control_point.specs.Point.{is_made}
-use Rattle.control_point.specs.PointLaws.{is_made_room}
+use Rattle.control_point.proofs.PointLaws.{is_made_room}
 use Rattle.control_point.specs.Told.{outcome_told}
 use Rattle.store.specs.Store.{set_knot_coordinates}
 use Rattle.store.specs.Tables.{set_knot_coordinates_table}
-use Rattle.store.specs.TablesLaws.{coordinates_told}
+use Rattle.store.proofs.TablesLaws.{coordinates_told}
 use Rattle.store.specs.declared.store.Changed.{Changed}
 use Rattle.edge.proofs.coordinates.set_knot_coordinates.Statement.{statement}
 use Rattle.edge.proofs.coordinates.set_knot_coordinates.Tie as tie

@@ -4,14 +4,14 @@ use mathlib.Core.Bool.{true}
 use borrow.Author.Tests.{not-true, not-false}
 use borrow.Author.Rules.{rules}
 use Rattle.control_point.specs.Point.{is_made}
-use Rattle.control_point.specs.PointLaws.{is_made_room}
+use Rattle.control_point.proofs.PointLaws.{is_made_room}
 use lib.ListN.{length, length-map}
 use Rattle.control_point.specs.Told.{outcome_told}
 use Rattle.control_point.specs.declared.refusal.Outcome.TheVariants.{Done}
 use Rattle.control_point.specs.declared.t_mesh_control_point.Side.TheVariants.{Opening}
 use Rattle.store.specs.Store.{store_sides, remove_edge_condition}
 use Rattle.store.specs.Tables.{remove_edge_condition_table}
-use Rattle.store.specs.TablesLaws.{edge_told, edge_opens}
+use Rattle.store.proofs.TablesLaws.{edge_told, edge_opens}
 use Rattle.store.specs.declared.store.Changed.{Changed}
 use Rattle.edge.proofs.edge.remove_edge_condition.Statement.{statement}
 use Rattle.edge.proofs.edge.remove_edge_condition.Tie as tie

@@ -4,14 +4,14 @@ use mathlib.Core.Bool.{true}
 use borrow.Author.Tests.{not-true, not-false}
 use borrow.Author.Rules.{rules}
 use Rattle.control_point.specs.Point.{is_made}
-use Rattle.control_point.specs.PointLaws.{is_made_room}
+use Rattle.control_point.proofs.PointLaws.{is_made_room}
 use lib.ListN.{length, length-map}
 use Rattle.control_point.specs.Told.{outcome_told}
 use Rattle.control_point.specs.declared.refusal.Outcome.TheVariants.{Done}
 use Rattle.control_point.specs.declared.t_mesh_control_point.Side.TheVariants.{Border}
 use Rattle.store.specs.Store.{store_sides, set_edge_con_weight}
 use Rattle.store.specs.Tables.{set_edge_con_weight_table}
-use Rattle.store.specs.TablesLaws.{weight_told, weight_border}
+use Rattle.store.proofs.TablesLaws.{weight_told, weight_border}
 use Rattle.store.specs.declared.store.Changed.{Changed}
 use Rattle.edge.proofs.Weighted.{weighted_border}
 use Rattle.edge.proofs.edge.set_edge_con_weight.Statement.{statement}

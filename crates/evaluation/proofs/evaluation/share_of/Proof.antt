@@ -1,6 +1,6 @@
 -- `share_of` meets its contract: the weight is the product of the two basis functions, times the pull.
 use borrow.Author.Rules.{rules}
-use Rattle.surface.specs.EvaluationLaws.{share_by_basis}
+use Rattle.surface.proofs.EvaluationLaws.{share_by_basis}
 use Rattle.evaluation.proofs.evaluation.share_of.Statement.{statement}
 use Rattle.evaluation.proofs.evaluation.share_of.Tie as tie
 

@@ -6,8 +6,8 @@ use mathlib.Core.Path.{◌≡◌}
 use mathlib.Core.Logic.{⊎_elim}
 use native.Mathlib.Omega.{arith}
 use Rattle.control_point.specs.Small.{millionth}
-use Rattle.surface.specs.EvaluationLaws.{Sums, sums_start, sums_end, sums_added, sums_passed, ready_kept, ready_built, evaluated_ready, subs_told}
-use Rattle.control_point.specs.ToldLaws.{beside}
+use Rattle.surface.proofs.EvaluationLaws.{Sums, sums_start, sums_end, sums_added, sums_passed, ready_kept, ready_built, evaluated_ready, subs_told}
+use Rattle.control_point.proofs.ToldLaws.{beside}
 use Rattle.surface.specs.Evaluation.{evaluation_told}
 use Rattle.surface.specs.declared.evaluation.Evaluated.{Evaluated}
 use Rattle.evaluation.proofs.evaluation.subs.Statement.{statement}

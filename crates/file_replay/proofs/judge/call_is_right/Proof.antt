@@ -6,7 +6,7 @@ use Rattle.big_endian.specs.BigEndian.{number_at}
 use Rattle.gatemap_host.specs.SetPoint.{host_number, host_buffer}
 use Rattle.file_replay.specs.Judged.{t_at, room_at, answer_at, call_bytes}
 use Rattle.stored_page.specs.Call.{stored_answer}
-use Rattle.stored_page.specs.CallLaws.{call_short, call_no_room, call_answered}
+use Rattle.stored_page.proofs.CallLaws.{call_short, call_no_room, call_answered}
 use Rattle.stored_page.specs.Page.{guard, buffer_of}
 use Rattle.file_replay.proofs.judge.call_is_right.Statement.{statement}
 use Rattle.file_replay.proofs.judge.call_is_right.Tie as tie

@@ -7,7 +7,7 @@ use Rattle.insertion.specs.Insert.{tears, counted_answer, answer_of}
 use borrow.Author.Rules.{rules}
 use Rattle.insertion.proofs.insertion.answer_of.Statement.{statement}
 use Rattle.insertion.proofs.insertion.answer_of.Tie as tie
-use Rattle.insertion.specs.InsertLaws.{opened_few, inferred_few}
+use Rattle.insertion.proofs.InsertLaws.{opened_few, inferred_few}
 
 opened-count-requires : tie.Need-opened-count-requires
 opened-count-requires c κs = search rules

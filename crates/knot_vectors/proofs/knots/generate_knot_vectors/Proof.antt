@@ -4,12 +4,12 @@ use mathlib.Core.Path.{◌≡◌, ◌∙◌, ap}
 use lib.Ieee.{Float}
 use Rattle.control_point.specs.Small.{millionth}
 use Rattle.control_point.specs.Told.{outcome_told}
-use Rattle.control_point.specs.ToldLaws.{beside}
+use Rattle.control_point.proofs.ToldLaws.{beside}
 use Rattle.t_mesh.specs.declared.t_mesh.Tmesh.{Tmesh}
 use Rattle.knot_vectors.specs.Knots.{all_knots, held_knots, generate_knot_vectors}
-use Rattle.knot_vectors.specs.KnotsLaws.{keeping_done, keeping_refused}
+use Rattle.knot_vectors.proofs.KnotsLaws.{keeping_done, keeping_refused}
 use Rattle.knot_vectors.specs.Table.{generated_table}
-use Rattle.knot_vectors.specs.TableLaws.{generated_told}
+use Rattle.knot_vectors.proofs.TableLaws.{generated_told}
 use Rattle.knot_vectors.specs.declared.knots.Generated.{Generated}
 use Rattle.knot_vectors.specs.declared.knots.ListedKnots.{ListedKnots}
 use Rattle.knot_vectors.proofs.knots.generate_knot_vectors.Statement.{statement}

@@ -7,7 +7,7 @@ use native.Mathlib.Omega.{arith}
 use Rattle.control_point.specs.Sides.{lent_sides}
 use Rattle.t_mesh.specs.Tmesh.{store_of}
 use Rattle.knot_vectors.specs.Knots.{all_knots, held_knots, rows_from}
-use Rattle.knot_vectors.specs.KnotsLaws.{knots_over, rows_end, rows_passed, rows_put, rows_refused}
+use Rattle.knot_vectors.proofs.KnotsLaws.{knots_over, rows_end, rows_passed, rows_put, rows_refused}
 use Rattle.knot_vectors.proofs.knots.listed_knots.Statement.{statement}
 use Rattle.knot_vectors.proofs.knots.listed_knots.Tie as tie
 

@@ -1,7 +1,7 @@
 -- `call_is_right` meets its contract: the page after the call is the page with what the call leaves in the buffer's place.
 use borrow.Author.Rules.{rules}
 use Rattle.load_replay.specs.JudgedLaws.{load_judged}
-use Rattle.stored_page.specs.CallLaws.{call_short, call_no_room}
+use Rattle.stored_page.proofs.CallLaws.{call_short, call_no_room}
 use Rattle.load_replay.proofs.judge.call_is_right.Statement.{statement}
 use Rattle.load_replay.proofs.judge.call_is_right.Tie as tie
 

@@ -2,7 +2,7 @@
 use mathlib.Core.Path.{refl}
 use borrow.Author.Rules.{rules}
 use native.Mathlib.Omega.{arith}
-use Rattle.map_file.specs.RunLaws.{same_past}
+use Rattle.map_file.proofs.RunLaws.{same_past}
 use Rattle.map_file.proofs.edit.next_place.Statement.{statement}
 use Rattle.map_file.proofs.edit.next_place.Tie as tie
 

@@ -9,7 +9,7 @@ use lib.Ieee.{Float}
 use lib.ListN.{length-set}
 use Rattle.control_point.specs.Small.{millionth}
 use Rattle.insertion.specs.Withdrawal.{leaves_point, InsertsBy}
-use Rattle.lent_mesh.specs.InsertionLaws.{InsertsIntoMesh, lent_inserts}
+use Rattle.lent_mesh.proofs.InsertionLaws.{InsertsIntoMesh, lent_inserts}
 use Rattle.lent_mesh.specs.LentMesh.{row_of}
 use Rattle.lent_points.specs.Lent.{Points, lent_points}
 use Rattle.map_format.specs.Format.{Edit, edit_at, target_of}

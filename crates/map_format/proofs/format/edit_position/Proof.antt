@@ -4,7 +4,7 @@ use mathlib.Core.Path.{ap, ◌∙◌}
 use mathlib.Core.List.{List}
 use borrow.Author.Rules.{rules}
 use Rattle.map_format.specs.Format.{position_in, position_at}
-use Rattle.map_format.specs.FormatLaws.{position_after}
+use Rattle.map_format.proofs.FormatLaws.{position_after}
 use Rattle.map_format.proofs.format.edit_position.Statement.{statement}
 use Rattle.map_format.proofs.format.edit_position.Tie as tie
 

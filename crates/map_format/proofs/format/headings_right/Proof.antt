@@ -4,7 +4,7 @@ use mathlib.Core.Path.{◌≡◌, refl, ap, ◌∙◌}
 use native.Mathlib.Omega.{arith}
 use borrow.Author.Rules.{rules}
 use Rattle.map_format.specs.Format.{edits_at, edit_bytes, most_edits, headings_right}
-use Rattle.map_format.specs.FormatLaws.{heading_right, heading_wrong}
+use Rattle.map_format.proofs.FormatLaws.{heading_right, heading_wrong}
 use Rattle.map_format.proofs.format.headings_right.Statement.{statement}
 use Rattle.map_format.proofs.format.headings_right.Tie as tie
 

@@ -3,7 +3,7 @@ use mathlib.Core.Path.{ap, ◌∙◌}
 use native.Mathlib.Omega.{arith}
 use borrow.Author.Rules.{rules}
 use Rattle.map_format.specs.Format.{position_at}
-use Rattle.map_format.specs.FormatLaws.{position_after}
+use Rattle.map_format.proofs.FormatLaws.{position_after}
 use Rattle.map_format.proofs.format.position_at.Statement.{statement}
 use Rattle.map_format.proofs.format.position_at.Tie as tie
 

@@ -1,6 +1,6 @@
 -- `target_at` meets its contract: what stands after the first bytes stands in all bytes, that many places on.
 use borrow.Author.Rules.{rules}
-use Rattle.map_format.specs.FormatLaws.{target_after}
+use Rattle.map_format.proofs.FormatLaws.{target_after}
 use Rattle.map_format.proofs.format.target_at.Statement.{statement}
 use Rattle.map_format.proofs.format.target_at.Tie as tie
 

@@ -6,12 +6,12 @@ use mathlib.Core.List.{List}
 use native.Mathlib.Omega.{arith}
 use borrow.Author.Rules.{rules}
 use borrow.Author.Tests.{not-true, not-false}
-use Rattle.control_point.specs.ToldLaws.{beside}
+use Rattle.control_point.proofs.ToldLaws.{beside}
 use Rattle.counted_file.specs.Counted.{file_told}
-use Rattle.counted_file.specs.CountedLaws.{length_tells}
+use Rattle.counted_file.proofs.CountedLaws.{length_tells}
 use Rattle.counted_file.specs.declared.FileCheck.{FileCheck}
 use Rattle.map_format.specs.Format.{edits_at, edit_bytes, most_edits, version_of, is_version, length_right, checked_file, file_table}
-use Rattle.map_format.specs.FormatLaws.{file_told_lem}
+use Rattle.map_format.proofs.FormatLaws.{file_told_lem}
 use Rattle.map_format.proofs.format.validate.Statement.{statement}
 use Rattle.map_format.proofs.format.validate.Tie as tie
 

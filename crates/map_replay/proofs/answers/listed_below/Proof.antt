@@ -5,7 +5,7 @@ use mathlib.Core.Path.{◌≡◌, sym, ap, ◌∙◌}
 use native.Mathlib.Omega.{arith}
 use borrow.Author.Rules.{rules}
 use Rattle.counting.specs.Counting.{count_below}
-use Rattle.counting.specs.CountLaws.{count_none, count_more, count_few}
+use Rattle.counting.proofs.CountLaws.{count_none, count_more, count_few}
 use Rattle.t_mesh.specs.Tmesh.{listed_in}
 use Rattle.map_replay.proofs.answers.listed_below.Statement.{statement}
 use Rattle.map_replay.proofs.answers.listed_below.Tie as tie

@@ -1,5 +1,5 @@
 -- The walk over lent sides meets its contract: what is left of the walk at each turn of the loop gives the whole.
-use Rattle.navigation.specs.WalkLaws.{walk_unmade, walk_starts, onward_unmade, onward_reached, onward_ring, onward_step}
+use Rattle.navigation.proofs.WalkLaws.{walk_unmade, walk_starts, onward_unmade, onward_reached, onward_ring, onward_step}
 use Rattle.control_point.specs.declared.t_mesh_control_point.Side.{Side}
 use Rattle.navigation.specs.declared.walk.Walk.TheVariants.{Refused}
 use Rattle.control_point.specs.declared.refusal.Refusal.TheVariants.{Ring}
@@ -10,7 +10,7 @@ use mathlib.Core.Path.{◌∙◌, sym, ap}
 use mathlib.Core.Bool.{true, false}
 use native.Mathlib.Omega.{arith}
 use Rattle.control_point.specs.Point.{is_made, is_link}
-use Rattle.control_point.specs.PointLaws.{is_made_made}
+use Rattle.control_point.proofs.PointLaws.{is_made_made}
 use Rattle.control_point.specs.Sides.{lent_sides}
 use Rattle.navigation.specs.Walk.{onward, step_over}
 use Rattle.navigation.proofs.walk.navigate.Goals as goal

@@ -1,6 +1,6 @@
 -- `no_openings` meets its contract: no side is listed, and zeros stand in all the room.
 use mathlib.Core.Path.{sym}
-use Rattle.openings.specs.OpeningsLaws.{answer_none}
+use Rattle.openings.proofs.OpeningsLaws.{answer_none}
 use Rattle.openings.proofs.openings.no_openings.Statement.{statement}
 use Rattle.openings.proofs.openings.no_openings.Tie as tie
 

@@ -5,7 +5,7 @@ use mathlib.Core.Path.{◌≡◌, sym, ap, ◌∙◌}
 use mathlib.Core.Logic.{⊎_elim}
 use Prim.Native.Nat.{ℕ, ◌<◌, ◌≤◌, ◌-◌}
 use Rattle.openings.specs.Openings.{openings_answer}
-use Rattle.openings.specs.OpeningsLaws.{open_below, below_none, below_few, below_all, answer_count, answer_after}
+use Rattle.openings.proofs.OpeningsLaws.{open_below, below_none, below_few, below_all, answer_count, answer_after}
 use Rattle.openings.specs.declared.list.Openings.{Openings}
 use Rattle.openings.proofs.openings.openings.Statement.{statement}
 use Rattle.openings.proofs.openings.openings.Tie as tie

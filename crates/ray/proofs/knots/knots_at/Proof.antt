@@ -3,7 +3,7 @@ use borrow.Author.Rules.{rules}
 use mathlib.Core.Path.{◌≡◌, ◌∙◌, sym}
 use Rattle.control_point.specs.Sides.{lent_sides}
 use Rattle.ray.specs.Knots.{knots_about, knots_at, both_of}
-use Rattle.ray.specs.KnotsLaws.{where_done, knots_by_lem}
+use Rattle.ray.proofs.KnotsLaws.{where_done, knots_by_lem}
 use Rattle.ray.proofs.knots.knots_at.Statement.{statement}
 use Rattle.ray.proofs.knots.knots_at.Tie as tie
 

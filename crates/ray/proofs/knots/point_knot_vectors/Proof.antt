@@ -5,13 +5,13 @@ use mathlib.Core.Bool.{true}
 use mathlib.Core.Path.{◌≡◌, ◌∙◌, sym, ap}
 use native.Mathlib.Omega.{arith}
 use Rattle.control_point.specs.Point.{is_made}
-use Rattle.control_point.specs.PointLaws.{is_made_room}
+use Rattle.control_point.proofs.PointLaws.{is_made_room}
 use Rattle.control_point.specs.Sides.{Sides}
-use Rattle.control_point.specs.ToldLaws.{beside}
+use Rattle.control_point.proofs.ToldLaws.{beside}
 use Rattle.store.specs.Store.{store_point}
 use Rattle.ray.specs.Knots.{knots_at, point_knot_vectors, knots_told}
 use Rattle.ray.specs.Table.{knots_table}
-use Rattle.ray.specs.TableLaws.{knots_told_lem}
+use Rattle.ray.proofs.TableLaws.{knots_told_lem}
 use Rattle.ray.specs.declared.knots.KnotsAnswer.{KnotsAnswer}
 use Rattle.ray.proofs.knots.point_knot_vectors.Statement.{statement}
 use Rattle.ray.proofs.knots.point_knot_vectors.Tie as tie

@@ -12,7 +12,7 @@ use Rattle.control_point.specs.Sides.{Sides, lent_sides}
 use Rattle.control_point.specs.declared.refusal.Refusal.TheVariants.{NoPoint}
 use Rattle.float64.specs.Literals.{zero_literal}
 use Rattle.ray.specs.Ray.{Ray, entries, after_entry, ray_from, ray_of}
-use Rattle.ray.specs.RayLaws.{ray_end, ray_step, ray_unmade, ray_made, cast_refused, cast_done, behind, behind_none, behind_put}
+use Rattle.ray.proofs.RayLaws.{ray_end, ray_step, ray_unmade, ray_made, cast_refused, cast_done, behind, behind_none, behind_put}
 use Rattle.ray_entry.specs.declared.entry.Entry.{Entry}
 use Rattle.ray_entry.specs.declared.entry.Front.{Front}
 use Rattle.ray.proofs.ray.cast.Statement.{statement}

@@ -2,9 +2,9 @@
 use borrow.Author.Rules.{rules}
 use mathlib.Core.Path.{◌∙◌, ap}
 use Rattle.control_point.specs.Sides.{Sides}
-use Rattle.control_point.specs.ToldLaws.{beside}
+use Rattle.control_point.proofs.ToldLaws.{beside}
 use Rattle.ray.specs.Ray.{cast_over, cast_told}
-use Rattle.ray.specs.TableLaws.{cast_told_lem}
+use Rattle.ray.proofs.TableLaws.{cast_told_lem}
 use Rattle.ray.proofs.ray.cast_ray.Statement.{statement}
 use Rattle.ray.proofs.ray.cast_ray.Tie as tie
 

@@ -9,7 +9,7 @@ use Rattle.navigation.specs.Walk.{walk_of}
 use Rattle.control_point.specs.declared.t_mesh_direction.TmeshDirection.{TmeshDirection}
 use Rattle.navigation.specs.declared.walk.Walk.{Walk}
 use Rattle.ray_approach.specs.Approach.{approach_round, approach_in, approach_of}
-use Rattle.ray_approach.specs.ApproachLaws.{approach_ring, approach_round_lem}
+use Rattle.ray_approach.proofs.ApproachLaws.{approach_ring, approach_round_lem}
 use Rattle.ray_approach.proofs.approach.approach_ray.Goals as goal
 
 pub loop-rounds-init : goal.loop-rounds-init

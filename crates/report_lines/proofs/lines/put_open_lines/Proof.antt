@@ -6,8 +6,8 @@ use native.Mathlib.Omega.{arith}
 use lib.ListN.{drop, get_or}
 use borrow.Author.Rules.{rules}
 use Rattle.openings.specs.Openings.{PointSide, openings_of, openings_answer}
-use Rattle.openings.specs.OpeningsLaws.{answer_count}
-use Rattle.openings.specs.OpeningsProof.{few_openings}
+use Rattle.openings.proofs.OpeningsLaws.{answer_count}
+use Rattle.openings.proofs.OpeningsProof.{few_openings}
 use Rattle.openings.specs.declared.list.Openings.{Openings}
 use Rattle.report_lines.specs.Lines.{open_line, open_lines}
 use Rattle.report_lines.proofs.LinesLaws.{Left, left_all, left_fits, left_next, left_none, left_length, open_lines_next, open_lines_none}

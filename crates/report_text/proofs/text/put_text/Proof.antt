@@ -5,7 +5,7 @@ use native.Mathlib.Omega.{arith}
 use lib.ListN.{length, take}
 use borrow.Author.Rules.{rules}
 use Rattle.big_endian.specs.Written.{written}
-use Rattle.big_endian.specs.WrittenLaws.{length_written}
+use Rattle.big_endian.proofs.WrittenLaws.{length_written}
 use Rattle.report_text.proofs.PutLaws.{put_all, written_next}
 use Rattle.report_text.proofs.text.put_text.Statement.{statement}
 use Rattle.report_text.proofs.text.put_text.Tie as tie

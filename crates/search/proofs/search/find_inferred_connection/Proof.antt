@@ -5,7 +5,7 @@ use borrow.Author.Rules.{rules}
 use lib.Ieee.{Float, binary64, of_bits}
 use Rattle.control_point.specs.Direction.{anti_clockwise_of}
 use Rattle.control_point.specs.Sides.{Sides, lent_sides}
-use Rattle.control_point.specs.ToldLaws.{beside}
+use Rattle.control_point.proofs.ToldLaws.{beside}
 use Rattle.navigation.specs.Walk.{walk_of}
 use Rattle.control_point.specs.declared.t_mesh_direction.TmeshDirection.{TmeshDirection}
 use Rattle.navigation.specs.declared.walk.Walk.{Walk}
@@ -13,7 +13,7 @@ use Rattle.search.proofs.search.find_inferred_connection.Statement.{statement}
 use Rattle.search.proofs.search.find_inferred_connection.Tie as tie
 use Rattle.search.specs.Search.{found_told, walked, seek_from, find_inferred_connection}
 use Rattle.search.specs.Table.{search_table}
-use Rattle.search.specs.TableLaws.{search_told}
+use Rattle.search.proofs.TableLaws.{search_told}
 use Rattle.search.specs.declared.search.Found.{Found}
 
 abbrev lent : tie.Start → Sides

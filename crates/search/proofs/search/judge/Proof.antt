@@ -11,7 +11,7 @@ use Rattle.control_point.specs.Small.{small}
 use Rattle.search.proofs.search.judge.Statement.{statement}
 use Rattle.search.proofs.search.judge.Tie as tie
 use Rattle.search.specs.Search.{after_connecting, judge_at}
-use Rattle.search.specs.SearchLaws.{judge_unmade, judge_near, judge_far}
+use Rattle.search.proofs.SearchLaws.{judge_unmade, judge_near, judge_far}
 use Rattle.search.specs.declared.search.Judged.TheVariants.{On, Ends}
 
 abbrev lent : tie.Start → Sides

@@ -11,7 +11,7 @@ use Rattle.search.proofs.Links.{move_refused}
 use Rattle.search.proofs.search.seek.Statement.{statement}
 use Rattle.search.proofs.search.seek.Tie as tie
 use Rattle.search.specs.Search.{judge_at, concluded, move_over, seek_from}
-use Rattle.search.specs.SearchLaws.{seek_ring, seek_step}
+use Rattle.search.proofs.SearchLaws.{seek_ring, seek_step}
 use Rattle.search.specs.declared.search.Found.TheVariants.{Failed}
 use Rattle.search.specs.declared.search.Found.{Found}
 use Rattle.search.specs.declared.search.Judged.{Judged}

@@ -6,7 +6,7 @@ use Rattle.big_endian.specs.BigEndian.{number_at}
 use Rattle.gatemap_host.specs.SeasonCall.{host_season_number, host_season_buffer}
 use Rattle.season_replay.specs.Judged.{room_at, answer_at, call_bytes}
 use Rattle.stored_page.specs.Call.{stored_answer}
-use Rattle.stored_page.specs.CallLaws.{call_short, call_no_room, call_answered}
+use Rattle.stored_page.proofs.CallLaws.{call_short, call_no_room, call_answered}
 use Rattle.stored_page.specs.Page.{guard, buffer_of}
 use Rattle.season_replay.proofs.judge.call_is_right.Statement.{statement}
 use Rattle.season_replay.proofs.judge.call_is_right.Tie as tie

@@ -5,7 +5,7 @@ use native.Mathlib.Omega.{arith}
 use lib.Dec.{ltb}
 use borrow.Author.Rules.{rules}
 use Rattle.season_window.specs.Decision.{first_minute}
-use Rattle.season_window.specs.DecisionLaws.{never_held, first_decides}
+use Rattle.season_window.proofs.DecisionLaws.{never_held, first_decides}
 use Rattle.season_window.proofs.Window.can_hold.Statement.{statement}
 use Rattle.season_window.proofs.Window.can_hold.Tie as tie
 

@@ -1,7 +1,7 @@
 -- `holds_with` meets its contract: two windows hold together where the part that they share can hold.
 use mathlib.Core.Path.{ap, ◌∙◌}
 use borrow.Author.Rules.{rules}
-use Rattle.season_window.specs.DecisionLaws.{common_can_hold}
+use Rattle.season_window.proofs.DecisionLaws.{common_can_hold}
 use Rattle.season_window.specs.Window.{can_hold}
 use Rattle.season_window.proofs.Window.holds_with.Statement.{statement}
 use Rattle.season_window.proofs.Window.holds_with.Tie as tie

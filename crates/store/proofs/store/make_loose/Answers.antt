@@ -14,7 +14,7 @@ use Rattle.control_point.specs.declared.t_mesh_control_point.TmeshControlPoint.{
 use Rattle.control_point.specs.declared.t_mesh_direction.TmeshDirection.{TmeshDirection}
 use Rattle.store.specs.Store.{store_sides, store_point, with_new, done, refused, make_loose}
 use Rattle.store.specs.Tables.{make_loose_table}
-use Rattle.store.specs.TablesLaws.{loose_told, loose_borders}
+use Rattle.store.proofs.TablesLaws.{loose_told, loose_borders}
 use Rattle.store.specs.declared.store.Changed.{Changed}
 use Rattle.store.specs.declared.store.Store.{Store}
 use Rattle.store.proofs.store.make_loose.Goals as goal

@@ -1,6 +1,6 @@
 -- `read_point` meets its contract: a made number has room.
 use mathlib.Core.Path.{◌∙◌, sym}
-use Rattle.control_point.specs.PointLaws.{is_made_room}
+use Rattle.control_point.proofs.PointLaws.{is_made_room}
 use Rattle.store.proofs.store.read_point.Goals as goal
 
 pub point_at-requires : goal.point_at-requires

@@ -1,10 +1,10 @@
 -- `read_side` meets its contract: a made number has room, and so the sides of its point.
 use mathlib.Core.Path.{◌∙◌, sym}
-use Rattle.control_point.specs.PointLaws.{is_made_room}
+use Rattle.control_point.proofs.PointLaws.{is_made_room}
 use Rattle.control_point.specs.Told.{side_told}
-use Rattle.control_point.specs.ToldLaws.{beside}
-use Rattle.store.specs.StoreLaws.{side_read}
-use Rattle.store.specs.TablesLaws.{side_told_lem}
+use Rattle.control_point.proofs.ToldLaws.{beside}
+use Rattle.store.proofs.StoreLaws.{side_read}
+use Rattle.store.proofs.TablesLaws.{side_told_lem}
 use Rattle.store.proofs.store.read_side.Goals as goal
 
 pub point_at-requires : goal.point_at-requires

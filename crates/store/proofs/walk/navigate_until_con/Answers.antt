@@ -1,8 +1,8 @@
 -- `navigate_until_con` meets its contract: the filled arrays hold the store's sides, so the walk over them is the walk over the store.
 use mathlib.Core.Path.{◌∙◌, ap}
 use Rattle.control_point.specs.Sides.{Sides}
-use Rattle.control_point.specs.ToldLaws.{beside}
-use Rattle.navigation.specs.TableLaws.{walk_told_lem}
+use Rattle.control_point.proofs.ToldLaws.{beside}
+use Rattle.navigation.proofs.TableLaws.{walk_told_lem}
 use Rattle.navigation.specs.Walk.{walk_told, walk_of}
 use Rattle.store.specs.Store.{store_sides}
 use Rattle.store.proofs.walk.navigate_until_con.Goals as goal

@@ -2,7 +2,7 @@
 use native.Mathlib.Omega.{arith}
 use borrow.Author.Tests.{eq-eqb, ne_eqb}
 use borrow.Author.Rules.{rules}
-use Rattle.stored_calls.specs.CallLaws.{answer_near}
+use Rattle.stored_calls.proofs.CallLaws.{answer_near}
 use Rattle.stored_calls.specs.Call.{replay_call}
 use Rattle.stored_calls.proofs.call.replay_call.Statement.{statement}
 use Rattle.stored_calls.proofs.call.replay_call.Tie as tie

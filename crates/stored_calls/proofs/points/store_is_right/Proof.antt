@@ -5,7 +5,7 @@ use native.Mathlib.Omega.{arith}
 use borrow.Author.Rules.{rules}
 use borrow.Author.Tests.{lt-ltb}
 use Rattle.stored_calls.specs.Points.{points_are_right, store_is_right}
-use Rattle.stored_calls.specs.PointsLaws.{points_none, points_more, store_with_room}
+use Rattle.stored_calls.proofs.PointsLaws.{points_none, points_more, store_with_room}
 use Rattle.stored_calls.proofs.points.store_is_right.Statement.{statement}
 use Rattle.stored_calls.proofs.points.store_is_right.Tie as tie
 

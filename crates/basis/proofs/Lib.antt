@@ -1,0 +1,2 @@
+pub mod FormulaLaws
+pub mod NonNegativeLaws

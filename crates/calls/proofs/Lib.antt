@@ -1,0 +1,13 @@
+pub mod ListLaws
+pub mod RowsLaws
+pub mod InsertionLaws
+pub mod GoodLaws
+pub mod GoodKnotsLaws
+pub mod PullingLaws
+pub mod SoundLaws
+pub mod WithdrawalLaws
+pub mod FullStrokeProof
+pub mod NotEmptyProof
+pub mod ReadingsProof
+pub mod CellReadingsProof
+pub mod SetPointReadingsProof

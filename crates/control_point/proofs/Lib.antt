@@ -1,0 +1,5 @@
+pub mod DirectionLaws
+pub mod PointLaws
+pub mod SidesLaws
+pub mod ConnectLaws
+pub mod ToldLaws

@@ -1,0 +1,5 @@
+pub mod BoolLaws
+pub mod CountLaws
+pub mod SumLaws
+pub mod PairLaws
+pub mod SomeLaws

@@ -1,0 +1,9 @@
+pub mod CallsLaws
+pub mod EndsProof
+pub mod NumbersProof
+pub mod SeasonProof
+pub mod FullStrokeProof
+pub mod CellProof
+pub mod LoadProof
+pub mod LedgerProof
+pub mod WithdrawalProof

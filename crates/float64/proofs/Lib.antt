@@ -1,0 +1,5 @@
+pub mod SignLaws
+pub mod ProductLaws
+pub mod Monotone
+pub mod MeanLaws
+pub mod BitsLaws

@@ -1,0 +1,2 @@
+pub mod KnotsLaws
+pub mod TableLaws

@@ -1,0 +1,2 @@
+pub mod LentMeshLaws
+pub mod InsertionLaws

@@ -1,0 +1,3 @@
+pub mod LoadLaws
+pub mod TheoremsProof
+pub mod ReadingsProof

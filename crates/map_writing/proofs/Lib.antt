@@ -1,0 +1,4 @@
+pub mod AnswerLaws
+pub mod LengthLaws
+pub mod PutLaws
+pub mod TheoremsProof

@@ -1,0 +1,4 @@
+pub mod PlaceLaws
+pub mod OpeningsLaws
+pub mod OpeningsProof
+pub mod AnswerProof

@@ -1,0 +1,2 @@
+pub mod ApproachLaws
+pub mod TableLaws

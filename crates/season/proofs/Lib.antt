@@ -1,0 +1,4 @@
+pub mod SeasonLaws
+pub mod TheoremsProof
+pub mod OrderProof
+pub mod ReadingsProof

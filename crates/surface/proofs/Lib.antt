@@ -1,0 +1,3 @@
+pub mod EvaluationLaws
+pub mod SetPointLaws
+pub mod PlainProof
