@@ -1,13 +1,16 @@
 -- Connecting: once both numbers are made, what the two points answer decides.
 use Prim.Native.Nat.{ℕ, ◌<◌}
-use mathlib.Core.Path.{◌≡◌, refl}
+use mathlib.Core.Path.{◌≡◌, sym, refl}
 use mathlib.Core.Bool.{Bool, true, false, ◌&&◌, false≢true}
 use lib.Ieee.{Float}
 use Rattle.control_point.specs.Connect.{connectable}
 use Rattle.control_point.specs.Direction.{flip_of}
 use Rattle.control_point.specs.Point.{is_made}
 use Rattle.control_point.proofs.PointLaws.{is_made_room}
+use Rattle.control_point.specs.declared.refusal.Outcome.{Outcome}
+use Rattle.control_point.specs.declared.refusal.Outcome.TheVariants.{Done, Refused}
 use Rattle.control_point.specs.declared.refusal.Refusal.TheVariants.{NoPoint}
+use Rattle.control_point.specs.declared.t_mesh_control_point.TmeshControlPoint.{TmeshControlPoint}
 use Rattle.control_point.specs.declared.t_mesh_direction.TmeshDirection.{TmeshDirection}
 use Rattle.store.specs.Store.{store_point, linked, refused, settled, connect_points}
 use Rattle.store.proofs.StoreLaws.{side_read}
@@ -38,3 +41,14 @@ module _ (store : Store) (first other : ℕ) where
         → connect_points store first other d interval ≡ settled (may_connect first other (store_point store first) (store_point store other) d) (linked store first other d interval) store
     unfolding connect_points connectable may_connect
     connect_settled h = simp (h, side_read store first d (first_room h), side_read store other (flip_of d) (other_room h))
+
+    -- what the two points answer decides
+    pub answered : BothMade → (near far : TmeshControlPoint) → near ≡ store_point store first → far ≡ store_point store other
+        → (outcome : Outcome) → outcome ≡ may_connect first other near far d
+        → settled outcome (linked store first other d interval) store ≡ connect_points store first other d interval
+    answered h near far n f outcome o = rw (o, n, f) (sym (connect_settled h))
+
+-- an answer other than done leaves the store
+pub not_done : (outcome : Outcome) (new old : Store) → (outcome ≡ Done → ⊥) → record { outcome = outcome; store = old } ≡ settled outcome new old
+not_done Done new old h = absurd (h refl)
+not_done (Refused r) new old h = refl
