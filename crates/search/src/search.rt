@@ -32,6 +32,7 @@ pub enum Judged {
 }
 
 // Whether the two points may be connected.
+#[tactic(auto, unfolding(control_point::specs::Connect::connectable))]
 fn connect_test<'a>(
     kinds: &'a [u8; 512],
     numbers: &'a [u8; 512],
@@ -107,6 +108,7 @@ fn judge<'a>(
 }
 
 // Moves from a point in anticlockwise(f), and judges each point on the way.
+#[tactic(auto, using(crate::proofs::Links::turn_refused, crate::proofs::Links::turn_judged, crate::proofs::SearchLaws::seek_ring))]
 fn seek<'a>(
     closeness: f64,
     kinds: &'a [u8; 512],
@@ -153,6 +155,7 @@ fn seek<'a>(
 }
 
 // Which point the side f of p is to be connected to, and at which interval.
+#[tactic(auto, unfolding(crate::specs::Search::find_inferred_connection))]
 pub fn find_inferred_connection<'a>(
     closeness: f64,
     kinds: &'a [u8; 512],
