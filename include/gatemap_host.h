@@ -17,7 +17,7 @@
  *     if (gatemap_set_point(file, length, s_bits, t_bits, value, sizeof value) == GATEMAP_DONE)
  *         ...
  *
- * `rt staticlib gatemap_host` writes the archive, target/staticlib/libgatemap_host.a,
+ * `tools/build gatemap_host` writes the archive, target/staticlib/libgatemap_host.a,
  * for x86-64 Linux. It links with gcc or clang and needs nothing but the C
  * library (memcpy, memset). examples/host.c (with examples/common.h) is
  * a whole program, examples/season.c one that takes the map that a season has at a
