@@ -15,6 +15,7 @@ use control_point::t_mesh_direction::TmeshDirection;
 use float64::in_unit;
 use insertion::insertion::Checked;
 
+#[tactic(auto, unfolding(insertion::specs::Insert::checked_intervals))]
 fn check_intervals(closeness: f64, made: u8, other: u8, interval: f64, facing: f64) -> Checked
     ensures { result ≡ checked_intervals closeness made other interval facing }
 {
@@ -60,6 +61,7 @@ fn check_other<'a>(
 }
 
 // All checks, over lent sides. Nothing is read before con is known to be made, and the other point only where con has a link.
+#[tactic(auto, unfolding(insertion::specs::Insert::checked))]
 pub fn check_link<'a>(
     closeness: f64,
     kinds: &'a [u8; 512],
