@@ -1,7 +1,7 @@
 -- `main` writes no more bytes than its buffer has.
 use Rattle.std.proofs.Common.{◌≡◌, ℕ, ◌≤◌, List, rules, arith, length, sym, ap, ◌∙◌, length-take-le}
 use Rattle.load.specs.Load.{asked_answer}
-use Rattle.load.specs.LoadLaws.{asked_fits}
+use Rattle.load.proofs.LoadLaws.{asked_fits}
 use Rattle.map_writing.specs.Answer.{bytes_written}
 use Rattle.map_writing.specs.declared.WriteAnswer.{WriteAnswer}
 use Rattle.gateload.proofs.main.Goals as goal

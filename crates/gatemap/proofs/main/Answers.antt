@@ -1,7 +1,7 @@
 -- `main` prints a report that ends within its buffer.
 use Rattle.std.proofs.Common.{◌≡◌, ℕ, ◌≤◌, List, rules, arith, length, sym, length-take-le}
 use Rattle.report.specs.Report.{report_of}
-use Rattle.report.specs.ReportFitsProof.{report_fits}
+use Rattle.report.proofs.ReportFitsProof.{report_fits}
 use Rattle.gatemap.proofs.main.Goals as goal
 
 within : (end : ℕ) (file text : List ℕ) → end ≡ length (report_of file) → 32768 ≡ length text → end ≤ length text
