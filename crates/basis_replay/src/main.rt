@@ -5,7 +5,10 @@
 ghost use Rattle.std.specs.Prelude.{◌≡◌};
 ghost use Rattle.basis_replay.specs.Case.{is_right, knots_of};
 
+use reading::read_full;
 use replay::{Outcome, Tally, count_outcome, is_end, outcome_of};
+use std::io;
+use std::io::Read;
 
 const CASE_BYTES: usize = 56;
 // More cases than the file holds: the loop ends with the file.
@@ -33,36 +36,32 @@ fn is_right(case: &[u8]) -> bool
 }
 
 // The next case, judged; one that the file ends within is wrong.
-fn next_outcome(descriptor: i32) -> Outcome {
+fn next_outcome<R: Read>(cases: &mut R) -> io::Result<Outcome> {
     let mut case = [0u8; 56];
-    let read = io::read_full(descriptor, &mut case);
+    let read = read_full(cases, &mut case)?;
     if read == 0 {
-        return Outcome::End;
+        return Ok(Outcome::End);
     }
     if read < CASE_BYTES {
-        return Outcome::Wrong;
+        return Ok(Outcome::Wrong);
     }
-    outcome_of(is_right(&case))
+    Ok(outcome_of(is_right(&case)))
 }
 
-fn replayed(descriptor: i32) -> Tally {
+fn replayed<R: Read>(cases: &mut R) -> io::Result<Tally> {
     let mut tally = Tally { right: 0, wrong: 0 };
-    let mut left = MOST_CASES;
-    while 0 < left {
-        let outcome = next_outcome(descriptor);
+    for _ in 0..MOST_CASES {
+        let outcome = next_outcome(cases)?;
         if is_end(outcome) {
-            return tally;
+            break;
         }
         tally = count_outcome(tally, outcome);
-        left -= 1;
     }
-    tally
+    Ok(tally)
 }
 
-fn main() {
-    let descriptor = replay::open_cases();
-    if 0 <= descriptor {
-        replay::report(replayed(descriptor));
-        libc::close(descriptor);
-    }
+fn main(rt: HostRuntime) -> io::Result<()> {
+    let mut cases = replay::open_cases(&rt)?;
+    let tally = replayed(&mut cases)?;
+    replay::report(&rt, tally)
 }

@@ -1,17 +1,18 @@
 // Reads a seed and a count of edits from standard input, and writes the load's map file; where it is refused, nothing.
 #![tactic(auto)]
 
-use libc::{STDIN_FILENO, STDOUT_FILENO};
 use load::{ASKED_BYTES, write_asked};
 use map_format::format::MOST_FILE_BYTES;
+use reading::read_full;
 
 // One byte more than what is asked for: an input that fills this has a wrong length.
 const INPUT_BYTES: usize = ASKED_BYTES + 1;
 
-fn main() {
+// An input that can't be read has no ten bytes, and an output that takes nothing is left: of neither does the program say anything.
+fn main(rt: HostRuntime) {
     let mut input = [0u8; INPUT_BYTES];
-    let read = io::read_full(STDIN_FILENO, &mut input);
+    let read = read_full(&mut rt.stdin(), &mut input).unwrap_or(0);
     let mut file = [0u8; MOST_FILE_BYTES];
     let written = write_asked(&input[..read], &mut file).bytes_written();
-    io::write_all(STDOUT_FILENO, &file[..written]);
+    let _ = rt.write_all(&file[..written]);
 }

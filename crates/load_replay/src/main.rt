@@ -4,7 +4,9 @@
 mod judge;
 
 use crate::judge::call_is_right;
-use replay::{CaseRead, Outcome, Tally, count_outcome, is_end, outcome_of, read_case};
+use replay::{CASE_ROOM, CaseRead, Outcome, Tally, count_outcome, is_end, outcome_of, read_case};
+use std::io;
+use std::io::Read;
 use stored_page::FILLER;
 
 // More cases than the file holds: the loop ends with the file.
@@ -26,33 +28,30 @@ fn judged(buffer: &[u8], bytes: usize) -> Outcome {
 }
 
 // The next case, judged; one that the file ends within is wrong.
-fn next_outcome(descriptor: i32) -> Outcome {
-    let mut case = io::large_buffer();
-    match read_case(descriptor, &mut case) {
+fn next_outcome<R: Read>(cases: &mut R) -> io::Result<Outcome> {
+    let mut case = [0u8; CASE_ROOM];
+    let outcome = match read_case(cases, &mut case)? {
         CaseRead::End => Outcome::End,
         CaseRead::Part => Outcome::Wrong,
         CaseRead::Whole(bytes) => judged(&case, bytes),
-    }
+    };
+    Ok(outcome)
 }
 
-fn replayed(descriptor: i32) -> Tally {
+fn replayed<R: Read>(cases: &mut R) -> io::Result<Tally> {
     let mut tally = Tally { right: 0, wrong: 0 };
-    let mut left = MOST_CASES;
-    while 0 < left {
-        let outcome = next_outcome(descriptor);
+    for _ in 0..MOST_CASES {
+        let outcome = next_outcome(cases)?;
         if is_end(outcome) {
-            return tally;
+            break;
         }
         tally = count_outcome(tally, outcome);
-        left -= 1;
     }
-    tally
+    Ok(tally)
 }
 
-fn main() {
-    let descriptor = replay::open_cases();
-    if 0 <= descriptor {
-        replay::report(replayed(descriptor));
-        libc::close(descriptor);
-    }
+fn main(rt: HostRuntime) -> io::Result<()> {
+    let mut cases = replay::open_cases(&rt)?;
+    let tally = replayed(&mut cases)?;
+    replay::report(&rt, tally)
 }

@@ -24,8 +24,10 @@ use openings::openings::openings;
 use pull::set_pull;
 use ray::knots::point_knot_vectors;
 use ray::ray::cast_ray;
-use replay::{CaseRead, Outcome, Tally, count_outcome, is_end, outcome_of, read_case};
+use replay::{CASE_ROOM, CaseRead, Outcome, Tally, count_outcome, is_end, outcome_of, read_case};
 use set_point::{lent_set_point, set_point};
+use std::io;
+use std::io::Read;
 use store::store::Store;
 use stored_calls::call::replay_call;
 use stored_calls::points::both;
@@ -361,33 +363,30 @@ fn judged(buffer: &[u8], bytes: usize) -> Outcome {
 }
 
 // The next list, judged; one that the file ends within is wrong.
-fn next_outcome(descriptor: i32) -> Outcome {
-    let mut list = io::large_buffer();
-    match read_case(descriptor, &mut list) {
+fn next_outcome<R: Read>(cases: &mut R) -> io::Result<Outcome> {
+    let mut list = [0u8; CASE_ROOM];
+    let outcome = match read_case(cases, &mut list)? {
         CaseRead::End => Outcome::End,
         CaseRead::Part => Outcome::Wrong,
         CaseRead::Whole(bytes) => judged(&list, bytes),
-    }
+    };
+    Ok(outcome)
 }
 
-fn replayed(descriptor: i32) -> Tally {
+fn replayed<R: Read>(cases: &mut R) -> io::Result<Tally> {
     let mut tally = Tally { right: 0, wrong: 0 };
-    let mut left = MOST_LISTS;
-    while 0 < left {
-        let outcome = next_outcome(descriptor);
+    for _ in 0..MOST_LISTS {
+        let outcome = next_outcome(cases)?;
         if is_end(outcome) {
-            return tally;
+            break;
         }
         tally = count_outcome(tally, outcome);
-        left -= 1;
     }
-    tally
+    Ok(tally)
 }
 
-fn main() {
-    let descriptor = replay::open_cases();
-    if 0 <= descriptor {
-        replay::report(replayed(descriptor));
-        libc::close(descriptor);
-    }
+fn main(rt: HostRuntime) -> io::Result<()> {
+    let mut cases = replay::open_cases(&rt)?;
+    let tally = replayed(&mut cases)?;
+    replay::report(&rt, tally)
 }

@@ -5,7 +5,14 @@ ghost use Rattle.std.specs.Prelude.{◌≡◌};
 ghost use Rattle.replay.specs.Tally.{one_more, counted, is_end, outcome_of};
 
 use big_endian::pair_at;
-use libc::STDOUT_FILENO;
+use reading::read_full;
+use std::fs::File;
+use std::io;
+use std::io::Read;
+use std::rt::Files;
+
+// The length of a buffer that has room for every case: two bytes say a case's length.
+pub const CASE_ROOM: usize = 65536;
 
 // What came of a case.
 #[derive(Clone, Copy)]
@@ -76,45 +83,38 @@ pub fn outcome_of(right: bool) -> Outcome
     Outcome::Wrong
 }
 
-// The descriptor of data/cases, negative where it can't be opened.
-pub fn open_cases() -> i32 {
-    let path = b"cases";
-    let descriptor = os::open_read(path);
-    if descriptor < 0 {
-        os::fail(path);
-    }
-    descriptor
+// The file of cases, `cases` in the folder that the program runs in.
+pub fn open_cases<R: Files>(rt: &R) -> io::Result<R::File> {
+    File::open(rt, "cases")
 }
 
 // Fills so many bytes of a buffer, or says that there are no more.
-fn fill(descriptor: i32, buffer: &mut [u8], bytes: usize) -> bool {
+fn fill<R: Read>(cases: &mut R, buffer: &mut [u8], bytes: usize) -> io::Result<bool> {
     if bytes <= buffer.len() {
-        return io::read_full(descriptor, &mut buffer[0..bytes]) == bytes;
+        return Ok(read_full(cases, &mut buffer[0..bytes])? == bytes);
     }
-    false
+    Ok(false)
 }
 
 // Reads the next case of those that begin with two bytes for their length.
-pub fn read_case(descriptor: i32, buffer: &mut [u8]) -> CaseRead {
+pub fn read_case<R: Read>(cases: &mut R, buffer: &mut [u8]) -> io::Result<CaseRead> {
     let mut length = [0u8; 2];
-    let read = io::read_full(descriptor, &mut length);
+    let read = read_full(cases, &mut length)?;
     if read == 0 {
-        return CaseRead::End;
+        return Ok(CaseRead::End);
     }
     if read < 2 {
-        return CaseRead::Part;
+        return Ok(CaseRead::Part);
     }
     let bytes = pair_at(&length, 0);
-    if fill(descriptor, buffer, bytes) {
-        return CaseRead::Whole(bytes);
+    if fill(cases, buffer, bytes)? {
+        return Ok(CaseRead::Whole(bytes));
     }
-    CaseRead::Part
+    Ok(CaseRead::Part)
 }
 
-pub fn report(tally: Tally) {
-    io::write_all(STDOUT_FILENO, b"right ");
-    io::print_decimal(STDOUT_FILENO, tally.right);
-    io::write_all(STDOUT_FILENO, b" wrong ");
-    io::print_decimal(STDOUT_FILENO, tally.wrong);
-    io::write_all(STDOUT_FILENO, b"\n");
+pub fn report(rt: &impl Print, tally: Tally) -> io::Result<()> {
+    let right = tally.right;
+    let wrong = tally.wrong;
+    println!(rt; "right {right} wrong {wrong}")
 }
