@@ -1,14 +1,8 @@
 -- What the test of con's side says of it, and what is known of a point that is found.
 use Prim.Native.Nat.{ℕ, ◌<◌}
-use mathlib.Core.Path.{◌≡◌, refl, sym, ◌∙◌, subst}
-use mathlib.Core.List.{[], ◌∷◌}
-use mathlib.Core.Logic.{⊎_elim}
-use native.Mathlib.Omega.{arith}
+use mathlib.Core.Path.{◌≡◌, refl, sym, ap, ◌∙◌, subst}
 use borrow.Author.Tests.{eqb-false}
 use lib.Ieee.{Float}
-use types.Run.{OneOf}
-use denote.Enum.Declared.{tag_of}
-use Rattle.control_point.specs.contracts.t_mesh_control_point.Side.{the_type}
 use Rattle.control_point.proofs.PointLaws.{is_made_room}
 use Rattle.control_point.specs.Sides.{Sides, sides_with}
 use Rattle.control_point.specs.declared.t_mesh_control_point.Side.{Side}
@@ -29,14 +23,24 @@ module _ (e : Float) (sides : Sides) (made con p : ℕ) (f : TmeshDirection) whe
   unfolding new_side
   new_border weight h = rw h
 
-  no_border : (side : Side) (new : NewSide) → OneOf (0 ∷ 2 ∷ []) (tag_of the_type side) → border_or side new ≡ new
+  no_border : (side : Side) (new : NewSide) → ((weight : Float) → side ≡ Border weight → ⊥) → border_or side new ≡ new
   no_border (Link n interval) new h = refl
-  no_border (Border weight) new h = absurd (⊎_elim (λ (z : 1 ≡ 0). omega arith) (λ (z : 1 ≡ 2). omega arith) h)
+  no_border (Border weight) new h = absurd (h weight refl)
   no_border Opening new h = refl
 
-  pub new_sought : (side : Side) → sides con f ≡ side → OneOf (0 ∷ 2 ∷ []) (tag_of the_type side) → new_side e sides made con p f ≡ sought_side (find_inferred_connection e (sides_with sides p f Opening) made p f)
+  pub new_sought : (side : Side) → sides con f ≡ side → ((weight : Float) → side ≡ Border weight → ⊥) → new_side e sides made con p f ≡ sought_side (find_inferred_connection e (sides_with sides p f Opening) made p f)
   unfolding new_side
   new_sought side h told = rw h (no_border side _ told)
+
+  -- p's side is opened, and it becomes what the search finds
+  pub new_found : (side : Side) → side ≡ sides con f → ((weight : Float) → side ≡ Border weight → ⊥)
+      → (after : Sides) → after ≡ sides_with sides p f Opening
+      → (found : Found) → found ≡ find_inferred_connection e after made p f
+      → (known : Found) → found ≡ known → sought_side known ≡ new_side e sides made con p f
+  new_found side read told after opened found searched known is =
+      ap sought_side (sym is ∙ searched)
+      ∙ ap (λ (x : Sides). sought_side (find_inferred_connection e x made p f)) opened
+      ∙ sym (new_sought side (sym read) told)
 
 -- a point that is found has room
 pub found_room : (e : Float) (sides : Sides) (made p : ℕ) (f : TmeshDirection) (found : Found) (n : ℕ) (interval : Float) → found ≡ find_inferred_connection e sides made p f → found ≡ At n interval → n < 128
