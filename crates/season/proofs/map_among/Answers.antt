@@ -1,0 +1,26 @@
+-- `map_among` meets its contract: what is left answers as all do, until one holds or none is left.
+use mathlib.Core.Path.{sym, ap, ◌∙◌}
+use native.Mathlib.Omega.{arith}
+use Rattle.season_window.specs.Window.{holds_at}
+use Rattle.season_window.specs.declared.Window.{Window}
+use Rattle.season.proofs.SeasonLaws.{map_none, map_here, map_before}
+use Rattle.season.specs.declared.SeasonAnswer.TheVariants.{Is}
+use Rattle.season.proofs.map_among.Goals as goal
+
+pub returns-then-holds : goal.returns-then-holds
+returns-then-holds c =
+    let l = c.loop-left in
+    let minute = c.args.minute in
+    let is = c.window_of-window.ensures in
+    ap (λ (w : Window). Is w.map) is
+    ∙ map_here _ minute l.left (omega arith) (sym (c.holds.ensures ∙ ap (λ (w : Window). holds_at w minute) is) ∙ c.if-holds.true)
+    ∙ l.invariant.1
+
+pub loop-left-preserved : goal.loop-left-preserved
+loop-left-preserved c =
+    let l = c.loop-left in
+    let minute = c.args.minute in
+    (omega arith, map_before _ minute l.left (omega arith) (sym (c.holds.ensures ∙ ap (λ (w : Window). holds_at w minute) c.window_of-window.ensures) ∙ c.if-holds.false) ∙ l.invariant.1)
+
+pub returns : goal.returns
+returns c = let l = c.loop-left in map_none _ _ l.left (omega arith) ∙ l.invariant.1
