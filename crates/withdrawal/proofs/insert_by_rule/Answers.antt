@@ -1,0 +1,47 @@
+-- `insert_by_rule` meets its contract: the checks are the definition's, and where they pass, the rule says which insertion follows.
+use mathlib.Core.Path.{refl, sym, ap}
+use mathlib.Core.Bool.{Bool, ◌&&◌}
+use Rattle.control_point.proofs.PointLaws.{is_made_made}
+use Rattle.control_point.specs.Sides.{lent_sides}
+use Rattle.lent_points.specs.Lent.{lent_points}
+use Rattle.insertion.specs.Insert.{is_torn}
+use Rattle.insertion.proofs.InsertLaws.{checked_passes}
+use Rattle.insertion.proofs.LentLaws.{inserts_refused}
+use Rattle.insertion.proofs.WithdrawalLaws.{untorn_not_withdrawn, inserts_not_withdrawn, by_rule}
+use Rattle.insertion.specs.declared.insertion.InsertAnswer.TheVariants.{Refused}
+use Rattle.withdrawal.proofs.insert_by_rule.Goals as goal
+
+pub insert_or_restore-requires : goal.insert_or_restore-requires
+insert_or_restore-requires c =
+    let a = c.args in
+    let w = checked_passes a.closeness a.ratio a.listed a.made a.con c.in-Passed.other c.in-Passed.interval (lent_sides a.kinds.now a.numbers.now a.intervals.now) a.direction (sym c.in-Passed.ensures) in
+    ((is_made_made _ _ w.con_made, (is_made_made _ _ w.other_made, w.roomy)), c.requires)
+
+pub returns-then-withdraws : goal.returns-then-withdraws
+returns-then-withdraws c = (
+  c.insert_or_restore.ensures.0,
+  by_rule _ _ _ _ _ _ _ _ _ _ c.if-withdraws.true (c.insert_or_restore.ensures.1 c.args.listed (sym c.in-Passed.ensures)),
+)
+
+pub insert_passed-requires : goal.insert_passed-requires
+insert_passed-requires c =
+    let a = c.args in
+    let w = checked_passes a.closeness a.ratio a.listed a.made a.con c.in-Passed.other c.in-Passed.interval (lent_sides a.kinds.now a.numbers.now a.intervals.now) a.direction (sym c.in-Passed.ensures) in
+    ((is_made_made _ _ w.con_made, (is_made_made _ _ w.other_made, w.roomy)), c.requires)
+
+pub returns-in-Refused : goal.returns-in-Refused
+unfolding lent_points
+returns-in-Refused c =
+    let a = c.args in (
+      c.requires,
+      inserts_not_withdrawn a.withdraws _ _ _ _ _ _ _ _ _
+          (inserts_refused a.closeness a.ratio a.listed a.con a.direction (lent_sides a.kinds.now a.numbers.now a.intervals.now) a.coordinates.now a.made _ (sym c.in-Refused.ensures))
+          (untorn_not_withdrawn a.withdraws (Refused c.in-Refused.refusal) refl),
+    )
+
+pub returns-else-withdraws : goal.returns-else-withdraws
+returns-else-withdraws c = (
+  c.insert_passed.ensures.0,
+  inserts_not_withdrawn c.args.withdraws _ _ _ _ _ _ _ _ _ (c.insert_passed.ensures.1 c.args.listed (sym c.in-Passed.ensures))
+      (ap (λ (rule : Bool). rule && is_torn c.insert_passed.result) c.if-withdraws.false),
+)
