@@ -2,7 +2,7 @@
 use borrow.Author.Rules.{rules}
 use mathlib.Core.Path.{sym}
 use Prim.Native.Nat.{◌-◌}
-use Rattle.counting.specs.CountLaws.{count_none, count_more}
+use Rattle.counting.proofs.CountLaws.{count_none, count_more}
 use Rattle.census.proofs.counts.count_listed.Goals as goal
 
 pub loop-n-init : goal.loop-n-init
