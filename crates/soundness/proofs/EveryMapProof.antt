@@ -69,6 +69,7 @@ of_evaluation : (refusal : Refusal) → OneOf (refusal_number refusal) (3 ∷ (4
 of_evaluation refusal (inl same) = (inr (inl same), ap (λ (m : ℕ). eqb m 20) same)
 of_evaluation refusal (inr (inl same)) = (inr (inr (inl same)), ap (λ (m : ℕ). eqb m 20) same)
 of_evaluation refusal (inr (inr (inl same))) = (inr (inr (inr (inl same))), ap (λ (m : ℕ). eqb m 20) same)
+of_evaluation refusal (inr (inr (inr none))) = elim none [ ]
 
 weighed_numbered : (answer : EvaluationAnswer) → KnownEvaluation answer → Numbered false (weighed answer)
 unfolding where_weighty
