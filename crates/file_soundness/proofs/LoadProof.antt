@@ -80,6 +80,7 @@ length_loaded seed count out long = ⊎_elim (λ named. absurd (small (host_load
     small n (inl is) h = omega arith
     small n (inr (inl is)) h = omega arith
     small n (inr (inr (inl is))) h = omega arith
+    small n (inr (inr (inr none))) h = elim none [ ]
 
 -- ---- the premises of the bound
 on_axis_lem : (axis : Axis) (p : Position) → PositionInUnit p → InUnit (coordinate axis p)

@@ -64,12 +64,14 @@ of_map n (inr (inr (inl same))) = inr (inr (inl same))
 of_map n (inr (inr (inr (inl same)))) = inr (inr (inr (inl same)))
 of_map n (inr (inr (inr (inr (inl same))))) = inr (inr (inr (inr (inr (inr (inr (inl same)))))))
 of_map n (inr (inr (inr (inr (inr (inl same)))))) = inr (inr (inr (inr (inr (inr (inr (inr (inr (inl same)))))))))
+of_map n (inr (inr (inr (inr (inr (inr none)))))) = elim none [ ]
 
 -- and so is one of the file's, and it is not 20
 of_file : (refusal : Refusal) → OneOf (refusal_number refusal) (12 ∷ (13 ∷ (14 ∷ []))) → NamedAnswer false (NoValue refusal)
 of_file refusal (inl same) = (inr (inr (inr (inr (inl same)))), ap (λ (m : ℕ). eqb m 20) same)
 of_file refusal (inr (inl same)) = (inr (inr (inr (inr (inr (inl same))))), ap (λ (m : ℕ). eqb m 20) same)
 of_file refusal (inr (inr (inl same))) = (inr (inr (inr (inr (inr (inr (inl same)))))), ap (λ (m : ℕ). eqb m 20) same)
+of_file refusal (inr (inr (inr none))) = elim none [ ]
 
 file_named : (file : List ℕ) (s t : Float) (check : FileCheck) → NamedCheck check
     → NamedAnswer (is_valid check && not (on_map s t)) (checked_set_point millionth file s t check)
@@ -114,11 +116,13 @@ of_building : (refusal : Refusal) → OneOf (refusal_number refusal) (3 ∷ (4 �
 of_building refusal (inl same) = inr (inl same)
 of_building refusal (inr (inl same)) = inr (inr (inl same))
 of_building refusal (inr (inr (inl same))) = inr (inr (inr (inl same)))
+of_building refusal (inr (inr (inr none))) = elim none [ ]
 
 of_check : (refusal : Refusal) → OneOf (refusal_number refusal) (12 ∷ (13 ∷ (14 ∷ []))) → NamedWords (NoWords refusal)
 of_check refusal (inl same) = inr (inr (inr (inr (inl same))))
 of_check refusal (inr (inl same)) = inr (inr (inr (inr (inr (inl same)))))
 of_check refusal (inr (inr (inl same))) = inr (inr (inr (inr (inr (inr (inl same))))))
+of_check refusal (inr (inr (inr none))) = elim none [ ]
 
 words_named : (answer : CellAnswer) → ((refusal : Refusal) → answer ≡ NoWords refusal → OneOf (refusal_number refusal) (3 ∷ (4 ∷ (9 ∷ [])))) → NamedWords answer
 words_named (Words words) refused = inl refl
