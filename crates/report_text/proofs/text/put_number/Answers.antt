@@ -8,7 +8,7 @@ use Rattle.report_text.proofs.TextLaws.{decimal_digits}
 use Rattle.report_text.proofs.text.put_number.Goals as goal
 
 pub put_word-requires : goal.put_word-requires
-put_word-requires c = omega (arith, ap length ((c.decimal-count.ensures.1.1 ∙ decimal_digits _ _ c.requires.few c.decimal-count.ensures.1.0)), c.requires.fits)
+put_word-requires c = omega (arith, ap length ((c.decimal-count.ensures.digits ∙ decimal_digits _ _ c.requires.few c.decimal-count.ensures.len)), c.requires.fits)
 
 pub returns : goal.returns
-returns c = put_as (ap (λ (text : List _). 32 ∷ text) ((c.decimal-count.ensures.1.1 ∙ decimal_digits _ _ c.requires.few c.decimal-count.ensures.1.0))) c.put_word.ensures
+returns c = put_as (ap (λ (text : List _). 32 ∷ text) ((c.decimal-count.ensures.digits ∙ decimal_digits _ _ c.requires.few c.decimal-count.ensures.len))) c.put_word.ensures
