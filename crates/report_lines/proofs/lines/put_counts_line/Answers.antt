@@ -1,0 +1,7 @@
+-- `put_counts_line` meets its contract: the parts of the line are put one behind the other.
+use Rattle.report_text.proofs.PutLaws.{put_then}
+use Rattle.report_lines.proofs.lines.put_counts_line.Goals as goal
+
+pub returns : goal.returns
+returns c =
+    put_then c.put_labelled-made.ensures (put_then c.put_labelled-listed.ensures (put_then c.put_labelled-links.ensures c.put_text.ensures))

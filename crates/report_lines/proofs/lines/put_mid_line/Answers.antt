@@ -1,0 +1,7 @@
+-- `put_mid_line` meets its contract: the parts of the line are put one behind the other.
+use Rattle.report_text.proofs.PutLaws.{put_then}
+use Rattle.report_lines.proofs.lines.put_mid_line.Goals as goal
+
+pub returns : goal.returns
+returns c =
+    put_then c.put_text-word.ensures (put_then c.put_mid_text-end.ensures c.put_text.ensures)
