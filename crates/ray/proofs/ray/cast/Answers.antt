@@ -1,25 +1,42 @@
 -- `cast` meets its contract: the entries that stand, and the rest of the ray behind them, are the whole ray at each turn of the loop.
 use borrow.Author.Rules.{rules}
-use Prim.Native.Nat.{ℕ, ◌-◌, ◌+◌}
-use mathlib.Core.List.{append-nil}
-use mathlib.Core.Path.{◌∙◌, sym, ap, refl}
+use Prim.Native.Nat.{ℕ, ◌-◌, ◌+◌, ◌<◌}
+use mathlib.Core.List.{List, append-nil}
+use mathlib.Core.Path.{◌≡◌, ◌∙◌, sym, ap, refl}
 use native.Mathlib.Nat.{sub-zero}
 use native.Mathlib.Omega.{arith}
+use lib.Ieee.{Float}
 use lib.ListN.{length, take, replicate, length-set}
 use lib.Seq.{take_all}
-use Rattle.control_point.specs.Sides.{lent_sides}
+use Rattle.control_point.specs.Sides.{Sides, lent_sides}
 use Rattle.control_point.specs.declared.refusal.Refusal.TheVariants.{NoPoint}
+use Rattle.control_point.specs.declared.t_mesh_direction.TmeshDirection.{TmeshDirection}
 use Rattle.float64.specs.Literals.{zero_literal}
-use Rattle.ray.specs.Ray.{entries, after_entry, ray_from}
+use Rattle.ray.specs.Ray.{entries, after_entry, ray_from, ray_of}
 use Rattle.ray.proofs.RayLaws.{ray_end, ray_step, ray_unmade, ray_made, cast_refused, cast_done, behind, behind_none, behind_put}
+use Rattle.ray_entry.specs.Entry.{entry_of}
 use Rattle.ray_entry.specs.declared.entry.Entry.{Entry}
+use Rattle.ray_entry.specs.declared.entry.Front.{Front}
 use Rattle.ray.proofs.ray.cast.Goals as goal
+
+-- a turn of the loop, by the entry that it gets
+entered : (e : Float) (sides : Sides) (made start : ℕ) (d : TmeshDirection) (n : ℕ) (buffer : List Float) (i : ℕ) (front : Front) (entry : Entry)
+    → i < n
+    → ray_of e sides made start d n ≡ behind (take i buffer) (ray_from e sides made d (n - i) front)
+    → entry ≡ entry_of e sides made d front
+    → ray_of e sides made start d n ≡ behind (take i buffer) (after_entry entry (λ next. ray_from e sides made d (n - (i + 1)) next))
+entered e sides made start d n buffer i front entry h so_far is =
+    so_far
+    ∙ ap (behind (take i buffer))
+    (ray_step e sides made d _ (n - (i + 1)) front (omega arith)
+    ∙ ap (λ (x : Entry). after_entry x (λ next. ray_from e sides made d (n - (i + 1)) next)) (sym is))
 
 pub returns-then-not-is_made : goal.returns-then-not-is_made
 returns-then-not-is_made c =
     let a = c.args in
     cast_refused _ (length a.buffer.now) _ NoPoint
-    (ray_unmade a.closeness ((lent_sides c.args.kinds.now c.args.numbers.now c.args.intervals.now)) a.made a.direction a.start (length a.buffer.now) (sym c.is_made.ensures ∙ c.if-not-is_made.true))
+    (ray_unmade a.closeness (lent_sides a.kinds.now a.numbers.now a.intervals.now) a.made a.direction a.start (length a.buffer.now)
+    (sym c.is_made.ensures ∙ c.if-not-is_made.true))
     c.clear.ensures
 
 pub loop-i-init : goal.loop-i-init
@@ -28,29 +45,42 @@ loop-i-init c =
       search rules,
       (
         refl,
-        ray_made a.closeness ((lent_sides c.args.kinds.now c.args.numbers.now c.args.intervals.now)) a.made a.direction a.start (length a.buffer.now) (sym c.is_made.ensures ∙ c.if-not-is_made.false)
+        ray_made a.closeness (lent_sides a.kinds.now a.numbers.now a.intervals.now) a.made a.direction a.start (length a.buffer.now)
+            (sym c.is_made.ensures ∙ c.if-not-is_made.false)
             ∙ rw (sub-zero, c.on_ray-front.ensures) (sym (behind_none _)),
       ),
     )
 
 pub returns-in-Refused : goal.returns-in-Refused
 returns-in-Refused c =
-    cast_refused _ (length c.args.buffer.now) _ c.in-Refused.refusal ((let a = c.args in c.loop-i.invariant.1.1 ∙ ap (behind (take c.loop-i.i c.loop-i.buffer)) (ray_step a.closeness ((lent_sides c.args.kinds.now c.args.numbers.now c.args.intervals.now)) a.made a.direction _ (length a.buffer.now - (c.loop-i.i + 1)) c.loop-i.front (omega arith) ∙ ap (λ (entry : Entry). after_entry entry (ray_from a.closeness (lent_sides c.args.kinds.now c.args.numbers.now c.args.intervals.now) a.made a.direction (length a.buffer.now - (c.loop-i.i + 1)))) (sym c.next_entry.ensures))) ∙ rw c.in-Refused.is)
-    (c.clear-in-Refused.ensures ∙ ap (λ (m : ℕ). replicate m zero_literal) c.loop-i.invariant.1.0)
+    let a = c.args in
+    let l = c.loop-i in
+    cast_refused _ (length a.buffer.now) _ c.in-Refused.refusal
+    (entered a.closeness (lent_sides a.kinds.now a.numbers.now a.intervals.now) a.made a.start a.direction (length a.buffer.now) l.buffer l.i l.front c.next_entry.result
+    (omega arith) l.invariant.1.1 c.next_entry.ensures
+    ∙ rw c.in-Refused.is)
+    (c.clear-in-Refused.ensures ∙ ap (λ (m : ℕ). replicate m zero_literal) l.invariant.1.0)
 
 pub loop-i-preserved : goal.loop-i-preserved
-loop-i-preserved c = (
-  omega arith,
-  (
-    length-set c.loop-i.buffer c.loop-i.i c.in-Is.value ∙ c.loop-i.invariant.1.0,
-    (let a = c.args in c.loop-i.invariant.1.1 ∙ ap (behind (take c.loop-i.i c.loop-i.buffer)) (ray_step a.closeness ((lent_sides c.args.kinds.now c.args.numbers.now c.args.intervals.now)) a.made a.direction _ (length a.buffer.now - (c.loop-i.i + 1)) c.loop-i.front (omega arith) ∙ ap (λ (entry : Entry). after_entry entry (ray_from a.closeness (lent_sides c.args.kinds.now c.args.numbers.now c.args.intervals.now) a.made a.direction (length a.buffer.now - (c.loop-i.i + 1)))) (sym c.next_entry.ensures))) ∙ rw c.in-Is.is (behind_put c.loop-i.buffer c.loop-i.i c.in-Is.value ((let a = c.args in ray_from a.closeness ((lent_sides c.args.kinds.now c.args.numbers.now c.args.intervals.now)) a.made a.direction (length a.buffer.now - (c.loop-i.i + 1)) c.in-Is.next)) c.loop-i-test.true),
-  ),
-)
+loop-i-preserved c =
+    let a = c.args in
+    let l = c.loop-i in
+    let sides = lent_sides a.kinds.now a.numbers.now a.intervals.now in (
+      omega arith,
+      (
+        length-set l.buffer l.i c.in-Is.value ∙ l.invariant.1.0,
+        entered a.closeness sides a.made a.start a.direction (length a.buffer.now) l.buffer l.i l.front c.next_entry.result
+            (omega arith) l.invariant.1.1 c.next_entry.ensures
+            ∙ rw c.in-Is.is
+            (behind_put l.buffer l.i c.in-Is.value (ray_from a.closeness sides a.made a.direction (length a.buffer.now - (l.i + 1)) c.in-Is.next) c.loop-i-test.true),
+      ),
+    )
 
 pub returns : goal.returns
 returns c =
     let a = c.args in
-    cast_done _ _ c.loop-i.buffer
-    (c.loop-i.invariant.1.1
-    ∙ ap (behind (take c.loop-i.i c.loop-i.buffer)) (ray_end a.closeness ((lent_sides c.args.kinds.now c.args.numbers.now c.args.intervals.now)) a.made a.direction _ c.loop-i.front (omega arith))
-    ∙ ap entries (append-nil _ ∙ take_all c.loop-i.i c.loop-i.buffer (omega arith)))
+    let l = c.loop-i in
+    cast_done _ _ l.buffer
+    (l.invariant.1.1
+    ∙ ap (behind (take l.i l.buffer)) (ray_end a.closeness (lent_sides a.kinds.now a.numbers.now a.intervals.now) a.made a.direction _ l.front (omega arith))
+    ∙ ap entries (append-nil _ ∙ take_all l.i l.buffer (omega arith)))
