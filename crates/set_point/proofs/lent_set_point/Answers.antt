@@ -11,13 +11,15 @@ use Rattle.set_point.proofs.lent_set_point.Goals as goal
 
 pub returns-then-not-on_map : goal.returns-then-not-on_map
 returns-then-not-on_map c =
-    let all = (let a = c.args in
-    (let a = c.args in beside evaluation_told _ _ (set_point_told millionth ((let a = c.args in held_map a.across.now a.upwards.now a.places.now a.listed.now)) a.s a.t) _)
-    (ap (λ (given : Evaluated). given.answer) (set_point_off millionth ((let a = c.args in held_map a.across.now a.upwards.now a.places.now a.listed.now)) a.s a.t (sym c.on_map.ensures ∙ c.if-not-on_map.true)))) in record { is = all.0; told = all.1 }
+    let a = c.args in
+    let held = held_map a.across.now a.upwards.now a.places.now a.listed.now in
+    let all = (beside evaluation_told _ _ (set_point_told millionth held a.s a.t) _
+    (ap (λ (given : Evaluated). given.answer) (set_point_off millionth held a.s a.t (sym c.on_map.ensures ∙ c.if-not-on_map.true)))) in record { is = all.0; told = all.1 }
 
 pub returns : goal.returns
 returns c =
-    let all = (let a = c.args in
-    (let a = c.args in beside evaluation_told _ _ (set_point_told millionth ((let a = c.args in held_map a.across.now a.upwards.now a.places.now a.listed.now)) a.s a.t) _)
-    (set_point_kept millionth ((let a = c.args in held_map a.across.now a.upwards.now a.places.now a.listed.now)) a.s a.t refl (sym c.on_map.ensures ∙ c.if-not-on_map.false) _
+    let a = c.args in
+    let held = held_map a.across.now a.upwards.now a.places.now a.listed.now in
+    let all = (beside evaluation_told _ _ (set_point_told millionth held a.s a.t) _
+    (set_point_kept millionth held a.s a.t refl (sym c.on_map.ensures ∙ c.if-not-on_map.false) _
     (c.where_weighty.ensures.is ∙ ap where_weighty c.lent_value.ensures))) in record { is = all.0; told = all.1 }

@@ -10,13 +10,14 @@ use Rattle.set_point.proofs.set_point.Goals as goal
 
 pub returns-then-not-on_map : goal.returns-then-not-on_map
 returns-then-not-on_map c =
-    let all = (let a = c.args in
-    (let a = c.args in beside (λ (given : Evaluated). evaluation_told given.answer) _ _ (set_point_told millionth a.map a.s a.t) _) (set_point_off millionth a.map a.s a.t (sym c.on_map.ensures ∙ c.if-not-on_map.true))) in record { is = all.0; told = all.1 }
+    let a = c.args in
+    let all = (beside (λ (given : Evaluated). evaluation_told given.answer) _ _ (set_point_told millionth a.map a.s a.t) _
+    (set_point_off millionth a.map a.s a.t (sym c.on_map.ensures ∙ c.if-not-on_map.true))) in record { is = all.0; told = all.1 }
 
 pub returns : goal.returns
 returns c =
-    let all = (let a = c.args in
-    (let a = c.args in beside (λ (given : Evaluated). evaluation_told given.answer) _ _ (set_point_told millionth a.map a.s a.t) _)
+    let a = c.args in
+    let all = (beside (λ (given : Evaluated). evaluation_told given.answer) _ _ (set_point_told millionth a.map a.s a.t) _
     (ap (λ (answer : EvaluationAnswer). record { answer = answer; map = c.subs-evaluated.result.map }) c.weighed.ensures
     ∙ set_point_on millionth a.map a.s a.t c.subs-evaluated.result c.subs-evaluated.ensures.is
     (sym c.on_map.ensures ∙ c.if-not-on_map.false))) in record { is = all.0; told = all.1 }
