@@ -78,6 +78,7 @@ fn after_connecting(outcome: Outcome) -> Judged
     }
 }
 
+#[tactic(auto, using(crate::proofs::SearchLaws::judge_unmade, crate::proofs::SearchLaws::judge_near, crate::proofs::SearchLaws::judge_far))]
 fn judge<'a>(
     closeness: f64,
     kinds: &'a [u8; 512],

@@ -13,6 +13,7 @@ use Rattle.lent_points.specs.Lent.{lent_points}
 use Rattle.lent_points.proofs.LentLaws.{PackedTo, packed_more, made_below}
 use Rattle.lent_mesh.proofs.LentMeshLaws.{packed_all}
 use Rattle.packed_map.proofs.packed_points.Goals as goal
+use Rattle.packed_map.proofs.packed_points.Goals.{In-loop-point}
 
 one_more : (made n : ℕ) → ((m : ℕ) → m < n → is_made made m ≡ true) → is_made made n ≡ true → (m : ℕ) → m < n + 1 → is_made made m ≡ true
 one_more made n all this m h = by_test (eqb m n) refl
@@ -21,29 +22,39 @@ one_more made n all this m h = by_test (eqb m n) refl
     by_test true e = ap (is_made made) (eqb-true m n e) ∙ this
     by_test false e = all m (omega (arith, h, eqb-false m n e))
 
+-- in a turn of the loop
+turn_room : (c : In-loop-point) → c.loop-point.k < 128
+turn_room c = is_made_room _ _ (sym c.loop-point-test.ensures)
+
 pub lent_point-point-requires : goal.lent_point-point-requires
-lent_point-point-requires c = (is_made_room _ _ ((sym c.is_made.ensures ∙ c.loop-point-test.true)))
+lent_point-point-requires c = turn_room (goal.at.lent_point-point-requires c).In-loop-point
 
 pub bounds-points-k : goal.bounds-points-k
-bounds-points-k c = (is_made_room _ _ ((sym c.is_made.ensures ∙ c.loop-point-test.true)))
+bounds-points-k c = turn_room (goal.at.bounds-points-k c).In-loop-point
 
 pub loop-point-smaller : goal.loop-point-smaller
-loop-point-smaller c = omega (arith, (is_made_room _ _ ((sym c.is_made.ensures ∙ c.loop-point-test.true))))
+loop-point-smaller c = omega (arith, turn_room (goal.at.loop-point-smaller c).In-loop-point)
 
 pub loop-point-preserved : goal.loop-point-preserved
 loop-point-preserved c =
-    let i = c.loop-point.invariant in (
-      omega (arith, (is_made_room _ _ ((sym c.is_made.ensures ∙ c.loop-point-test.true)))),
+    let a = c.args in
+    let i = c.loop-point.invariant in
+    let k = c.loop-point.k in
+    let room : k < 128 = turn_room (goal.at.loop-point-preserved c).In-loop-point in
+    let lent = lent_points a.kinds.now a.numbers.now a.intervals.now a.coordinates.now in
+    let loose = replicate 128 c.loose_point-points.result in (
+      omega arith,
       (
-        one_more c.args.made c.loop-point.k i.1.0 ((sym c.is_made.ensures ∙ c.loop-point-test.true)),
-        subst (λ (point : TmeshControlPoint). PackedTo (c.loop-point.k + 1) ((let a = c.args in lent_points a.kinds.now a.numbers.now a.intervals.now a.coordinates.now)) ((replicate 128 c.loose_point-points.result)) (set c.loop-point.points c.loop-point.k point)) (sym c.lent_point-point.ensures)
-            (packed_more c.loop-point.k ((let a = c.args in lent_points a.kinds.now a.numbers.now a.intervals.now a.coordinates.now)) ((replicate 128 c.loose_point-points.result)) c.loop-point.points (omega (arith, (length-replicate 128 c.loose_point-points.result), (is_made_room _ _ ((sym c.is_made.ensures ∙ c.loop-point-test.true))))) i.1.1),
+        one_more a.made k i.1.0 (sym c.loop-point-test.ensures),
+        subst (λ (point : TmeshControlPoint). PackedTo (k + 1) lent loose (set c.loop-point.points k point)) (sym c.lent_point-point.ensures)
+            (packed_more k lent loose c.loop-point.points (omega (arith, length-replicate 128 c.loose_point-points.result)) i.1.1),
       ),
     )
 
 pub returns : goal.returns
 returns c =
-    packed_all ((let a = c.args in lent_points a.kinds.now a.numbers.now a.intervals.now a.coordinates.now)) c.loose_point-points.result c.loop-point.points c.args.made c.loop-point.k c.loose_point-points.ensures c.loop-point.invariant.0
-    c.loop-point.invariant.1.0
-    (λ m h. made_below c.args.made c.loop-point.k m (sym c.is_made.ensures ∙ c.loop-point-test.false) h)
-    c.loop-point.invariant.1.1
+    let a = c.args in
+    let l = c.loop-point in
+    packed_all (lent_points a.kinds.now a.numbers.now a.intervals.now a.coordinates.now) c.loose_point-points.result l.points a.made l.k c.loose_point-points.ensures l.invariant.0 l.invariant.1.0
+    (λ m h. made_below a.made l.k m (sym c.loop-point-test.ensures) h)
+    l.invariant.1.1
