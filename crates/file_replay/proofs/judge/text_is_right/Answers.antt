@@ -1,5 +1,5 @@
 -- `text_is_right` meets its contract: the page after the report is the page with the report in the buffer's place.
-use Rattle.file_replay.specs.JudgedLaws.{text_no_room, text_judged}
+use Rattle.file_replay.proofs.JudgedLaws.{text_no_room, text_judged}
 use Rattle.file_replay.proofs.judge.text_is_right.Goals as goal
 
 pub returns-then-page-end : goal.returns-then-page-end

@@ -1,5 +1,5 @@
 -- `call_is_right` meets its contract: the page after the call is the page with what the call leaves in the buffer's place.
-use Rattle.load_replay.specs.JudgedLaws.{load_judged}
+use Rattle.load_replay.proofs.JudgedLaws.{load_judged}
 use Rattle.stored_page.proofs.CallLaws.{call_short, call_no_room}
 use Rattle.load_replay.proofs.judge.call_is_right.Goals as goal
 
