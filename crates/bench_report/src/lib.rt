@@ -15,13 +15,11 @@ fn counted(total: u64, length: usize, byte: u8) -> u64 {
 #[unsafe(no_mangle)]
 pub extern "C" fn bench_reports(file: &[u8], repeats: u64) -> u64 {
     let mut text = [0u8; REPORT_BYTES];
-    let mut total: u64 = 0;
-    let mut turn: u64 = 0;
-    while turn < repeats {
+    let mut total = 0;
+    for turn in 0..repeats {
         let end = report(file, &mut text);
         let byte = text[turn as usize % REPORT_BYTES];
         total = counted(total, end, byte);
-        turn += 1;
     }
     total
 }

@@ -1,6 +1,7 @@
 -- What was written is read back: a byte of it, and a number and a float in it, wherever they stand in what was written; and a byte, a number and a float of a text, wherever they stand in it.
 use Rattle.std.specs.Prelude.{ℕ, zero, suc, ◌+◌, ◌*◌, ◌/◌, ◌%◌, ◌^◌, ◌≤◌, ◌<◌, ◌≡◌, refl, List, [], ◌∷◌, ◌++◌, T, Float, length, get_or, set}
 use Rattle.std.proofs.Common.{sym, ap, ◌∙◌, subst, append_assoc, pow-suc, arith, get_or-append-add, length-append, length-set}
+use Rattle.std.proofs.lemmas.List.{get_or-set_same, get_or-set_other}
 use Rattle.std.specs.Float.{binary64}
 use Rattle.std.specs.Float.Ieee.{of_bits, to_bits, fits}
 use Rattle.std.specs.Float.Ieee.Bits.{to_bits-lt, of_bits-to_bits}
@@ -9,23 +10,11 @@ use Rattle.big_endian.specs.Written.{written, bytes_of, bytes_of_float}
 use Rattle.big_endian.proofs.WrittenLaws.{length_bytes}
 
 -- ---- bytes
--- a byte that is set, and another
-set_here : (bytes : List ℕ) (at byte : ℕ) → at < length bytes → get_or (set bytes at byte) at 0 ≡ byte
-set_here [] at byte h = absurd (omega arith)
-set_here (first ∷ bytes) zero byte h = refl
-set_here (first ∷ bytes) (suc at) byte h = set_here bytes at byte (omega arith)
-
-set_there : (bytes : List ℕ) (at place byte : ℕ) → place < at → get_or (set bytes at byte) place 0 ≡ get_or bytes place 0
-set_there [] at place byte h = refl
-set_there (first ∷ bytes) zero place byte h = absurd (omega arith)
-set_there (first ∷ bytes) (suc at) zero byte h = refl
-set_there (first ∷ bytes) (suc at) (suc place) byte h = set_there bytes at place byte (omega arith)
-
 -- what stands before the place of writing stays
 before_stays : (text buffer : List ℕ) (at place : ℕ) → place < at → get_or (written buffer at text) place 0 ≡ get_or buffer place 0
 unfolding written
 before_stays [] buffer at place h = refl
-before_stays (byte ∷ text) buffer at place h = before_stays text (set buffer at byte) (at + 1) place (omega arith) ∙ set_there buffer at place byte h
+before_stays (byte ∷ text) buffer at place h = before_stays text (set buffer at byte) (at + 1) place (omega arith) ∙ get_or-set_other buffer at place byte 0 (λ same. omega arith)
 
 -- a byte of what was written
 byte_back : (text buffer : List ℕ) (at i : ℕ) → i < length text → at + length text ≤ length buffer → get_or (written buffer at text) (at + i) 0 ≡ get_or text i 0
@@ -34,7 +23,7 @@ byte_back [] buffer at i h room = absurd (omega arith)
 byte_back (byte ∷ text) buffer at zero h room =
     ap (λ (place : ℕ). get_or (written (set buffer at byte) (at + 1) text) place 0) {x = at + 0} {y = at} (omega arith)
     ∙ before_stays text (set buffer at byte) (at + 1) at (omega arith)
-    ∙ set_here buffer at byte (omega arith)
+    ∙ get_or-set_same buffer at byte 0 (omega arith)
 byte_back (byte ∷ text) buffer at (suc i) h room =
     ap (λ (place : ℕ). get_or (written (set buffer at byte) (at + 1) text) place 0) {x = at + suc i} {y = at + 1 + i} (omega arith)
     ∙ byte_back text (set buffer at byte) (at + 1) i (omega arith) (let same = length-set buffer at byte in omega arith)
@@ -48,11 +37,6 @@ same_number (suc width) bytes others at place same =
     ap (λ (high : ℕ). high * 256 + get_or bytes (at + width) 0) (same_number width bytes others at place (λ i h. same i (omega arith)))
     ∙ ap (λ (low : ℕ). number_at width others place * 256 + low) (same width (omega arith))
 
-after_append : (first rest : List ℕ) (i : ℕ) → get_or (first ++ rest) (length first + i) 0 ≡ get_or rest i 0
-after_append [] rest i = ap (λ (place : ℕ). get_or rest place 0) {x = 0 + i} {y = i} (omega arith)
-after_append (byte ∷ first) rest i =
-    ap (λ (place : ℕ). get_or (byte ∷ (first ++ rest)) place 0) {x = suc (length first) + i} {y = suc (length first + i)} (omega arith) ∙ after_append first rest i
-
 -- the bytes of a number, whatever follows them, are that number
 number_of_bytes : (width number : ℕ) (rest : List ℕ) → number < 256 ^ width → number_at width (bytes_of width number ++ rest) 0 ≡ number
 unfolding number_at bytes_of
@@ -64,7 +48,7 @@ number_of_bytes (suc width) number rest h =
     ∙ ap (λ (n : ℕ). n * 256 + get_or (high ++ low) (0 + width) 0) (number_of_bytes width (number / 256) low (fewer h))
     ∙ ap (λ (n : ℕ). number / 256 * 256 + n)
     (ap (λ (place : ℕ). get_or (high ++ low) place 0) {x = 0 + width} {y = length high + 0} (let same = length_bytes width (number / 256) in omega arith)
-    ∙ after_append high low 0)
+    ∙ get_or-append-add high low 0 0)
     ∙ omega arith
   where
     fewer : number < 256 ^ suc width → number / 256 < 256 ^ width
@@ -81,7 +65,7 @@ number_back width number before rest buffer below room =
     ∙ byte_back text buffer 0 (length before + i)
     (let whole = length-append before (bytes_of width number ++ rest) in let own = length-append (bytes_of width number) rest in let same = length_bytes width number in omega arith)
     (omega (arith, room))
-    ∙ after_append before (bytes_of width number ++ rest) i
+    ∙ get_or-append-add before (bytes_of width number ++ rest) i 0
     ∙ ap (λ (place : ℕ). get_or (bytes_of width number ++ rest) place 0) {x = i} {y = 0 + i} (omega arith))
     ∙ number_of_bytes width number rest below
 

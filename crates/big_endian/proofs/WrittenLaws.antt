@@ -1,7 +1,10 @@
 -- Laws of the definitions of specs/Written.antt.
-use Rattle.std.specs.Prelude.{ℕ, zero, suc, ◌+◌, ◌/◌, ◌%◌, ◌≤◌, ◌≡◌, refl, List, [], ◌∷◌, ◌++◌, length, set, drop}
-use Rattle.std.proofs.Common.{sym, ap, ◌∙◌, append_assoc, add-one, arith, length-append, length-set}
-use Rattle.std.proofs.lemmas.List.{set_comm}
+use Rattle.std.specs.Prelude.{ℕ, zero, suc, ◌+◌, ◌*◌, ◌/◌, ◌%◌, ◌^◌, ◌≤◌, ◌≡◌, refl, List, [], ◌∷◌, ◌++◌, length, set, take, drop}
+use Rattle.std.proofs.Common.{sym, ap, ◌∙◌, append_assoc, pow-suc, add-one, arith, length-append, length-set, length-drop}
+use Rattle.std.specs.Int.{byte_at, bytes_high_first}
+use Rattle.std.proofs.Math.Nat.{div-div-eq-div-mul}
+use Rattle.std.proofs.lemmas.List.{set_comm, set_past, take-append-drop, length-take-le}
+use borrow.Rule.Slice.PartMut.{put_mid}
 use Rattle.big_endian.specs.Written.{written, bytes_of}
 
 -- bytes written after others stand behind them
@@ -56,6 +59,31 @@ written_more width buffer at number =
     ∙ sym (written_append buffer at others last ∙ ap (λ (n : ℕ). written (written buffer at others) (at + n) last) many)
     ∙ ap (λ (w : ℕ). written buffer at (bytes_of w number)) (sym (add-one width))
 
+-- std's bytes of a number are ours: its last byte stands behind those of the rest
+byte_of_rest : (i number : ℕ) → byte_at (suc i) number ≡ byte_at i (number / 256)
+byte_of_rest zero number = refl
+byte_of_rest (suc i) number = ap (λ (n : ℕ). n % 256) (ap (λ (power : ℕ). number / power) (pow-suc 256 (suc i) ∙ times_256) ∙ sym (div-div-eq-div-mul number 256 (256 ^ suc i)))
+  where
+    times_256 : 256 ^ suc i * 256 ≡ 256 * 256 ^ suc i
+    times_256 = omega arith
+
+last_behind : (width number : ℕ) → bytes_high_first (suc width) number ≡ bytes_high_first width (number / 256) ++ (number % 256 ∷ [])
+last_behind zero number = refl
+last_behind (suc width) number = ap (λ (l : List ℕ). byte_at (suc width) number ∷ l) (last_behind width number)
+    ∙ ap (λ (byte : ℕ). byte ∷ (bytes_high_first width (number / 256) ++ (number % 256 ∷ []))) (byte_of_rest width number)
+
+pub bytes_as_std : (width number : ℕ) → bytes_high_first width number ≡ bytes_of width number
+unfolding bytes_of
+bytes_as_std zero number = refl
+bytes_as_std (suc width) number = last_behind width number ∙ ap (λ (l : List ℕ). l ++ (number % 256 ∷ [])) (bytes_as_std width (number / 256))
+
+-- past the end nothing is written
+pub written_past : (buffer : List ℕ) (at : ℕ) (bytes : List ℕ) → length buffer ≤ at → written buffer at bytes ≡ buffer
+unfolding written
+written_past buffer at [] past = refl
+written_past buffer at (byte ∷ rest) past =
+    ap (λ (l : List ℕ). written l (at + 1) rest) (set_past buffer at byte past) ∙ written_past buffer (at + 1) rest (omega arith)
+
 -- ---- what is written at the front of a buffer
 set_behind : (before : List ℕ) (byte first : ℕ) (rest : List ℕ) → set (before ++ (first ∷ rest)) (length before) byte ≡ before ++ (byte ∷ rest)
 set_behind [] byte first rest = refl
@@ -77,3 +105,26 @@ written_behind (byte ∷ text) before (first ∷ buffer) room =
 -- it stands there, and the rest is untouched
 pub written_front : (text buffer : List ℕ) → length text ≤ length buffer → written buffer 0 text ≡ text ++ drop (length text) buffer
 written_front text buffer room = written_behind text [] buffer room
+
+-- ---- what is written inside a buffer stands in the place of as many bytes
+pub written_mid : (buffer : List ℕ) (at size : ℕ) (bytes : List ℕ) → size ≡ length bytes → at + length bytes ≤ length buffer
+    → written buffer at bytes ≡ put_mid at size buffer bytes
+written_mid buffer at size bytes long room =
+    let before = take at buffer in
+    let behind = drop at buffer in
+    let place : length before ≡ at = length-take-le at buffer (omega arith) in
+    ap (λ (l : List ℕ). written l at bytes) (sym (take-append-drop at buffer))
+    ∙ ap (λ (n : ℕ). written (before ++ behind) n bytes) (sym place)
+    ∙ written_behind bytes before behind (omega (arith, length-drop at buffer))
+    ∙ ap (λ (n : ℕ). before ++ (bytes ++ drop n behind)) (sym long)
+
+-- and of more bytes than there is room for, those that have room
+pub written_room : (buffer : List ℕ) (at room : ℕ) (bytes : List ℕ) → at + room ≡ length buffer → room ≤ length bytes
+    → written buffer at bytes ≡ put_mid at room buffer (take room bytes)
+written_room buffer at room bytes end more =
+    let fitting = take room bytes in
+    let many : length fitting ≡ room = length-take-le room bytes more in
+    ap (written buffer at) (sym (take-append-drop room bytes))
+    ∙ written_append buffer at fitting (drop room bytes)
+    ∙ written_past (written buffer at fitting) (at + length fitting) (drop room bytes) (omega (arith, length_written buffer at fitting))
+    ∙ written_mid buffer at room fitting (sym many) (omega arith)

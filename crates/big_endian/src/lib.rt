@@ -1,7 +1,7 @@
 // Numbers in stored bytes, the most significant byte first. A byte past the end counts as 0, so that every place can be read, and is not written.
 #![tactic(auto)]
 
-ghost use Rattle.std.specs.Prelude.{◌≡◌, ◌+◌, ◌^◌, ◌≤◌, ◌<◌, drop, length, set};
+ghost use Rattle.std.specs.Prelude.{◌≡◌, ◌^◌, ◌≤◌, ◌<◌, drop, set};
 ghost use Rattle.big_endian.specs.BigEndian.{byte_at, number_at, float_at};
 ghost use Rattle.big_endian.specs.Written.{written, bytes_of, bytes_of_float};
 
@@ -9,33 +9,7 @@ ghost use Rattle.big_endian.specs.Written.{written, bytes_of, bytes_of_float};
 pub fn byte_at(bytes: &[u8], at: usize) -> u8
     ensures { result ≡ byte_at bytes.now at }
 {
-    byte_after(bytes, at, 0)
-}
-
-// The byte that stands `offset` places after `at`.
-fn byte_after(bytes: &[u8], at: usize, offset: usize) -> u8
-    ensures { result ≡ byte_at bytes.now (at + offset) }
-{
-    if at < bytes.len() {
-        if offset < bytes.len() - at {
-            return bytes[at + offset];
-        }
-    }
-    0
-}
-
-// The byte at a place, where there is one.
-fn byte_in(bytes: &[u8], at: usize) -> u8
-    requires { at < length bytes.now }
-    ensures { result ≡ byte_at bytes.now at }
-{
-    bytes[at]
-}
-
-fn wide(byte: u8) -> usize
-    ensures { result ≡ byte }
-{
-    byte as usize
+    bytes.get(at).copied().unwrap_or(0)
 }
 
 // The number in the two bytes from a place on.
@@ -43,7 +17,7 @@ pub fn pair_at(bytes: &[u8], at: usize) -> usize
     ensures value { result ≡ number_at 2 bytes.now at }
     ensures bound { result < 65536 }
 {
-    wide(byte_after(bytes, at, 0)) * 256 + wide(byte_after(bytes, at, 1))
+    number_of_width(bytes, at, 2) as usize
 }
 
 // The number in so many bytes from a place on.
@@ -52,34 +26,22 @@ fn number_of_width(bytes: &[u8], at: usize, width: usize) -> u64
     ensures value { result ≡ number_at width bytes.now at }
     ensures bound { result < 256 ^ width }
 {
-    let mut number: u64 = 0;
-    let mut read: usize = 0;
-    while read < width {
-        number = number * 256 + (byte_after(bytes, at, read) as u64);
-        read += 1;
+    let rest = after(bytes, at);
+    let mut number = 0;
+    for i in 0..width {
+        number = number * 256 + u64::from(byte_at(rest, i));
     }
     number
 }
 
-// The number in the eight bytes from a place on.
+// The number in the eight bytes from a place on. Where all eight are there, no byte is tested for, so that the compiler makes one load of them.
 pub fn number_at(bytes: &[u8], at: usize) -> u64
     ensures { result ≡ number_at 8 bytes.now at }
 {
-    number_of_width(bytes, at, 8)
-}
-
-// The same where all eight are there: no byte is tested for, so that the compiler can make one load of them.
-fn whole_number(bytes: &[u8], at: usize) -> u64
-    requires { at + 8 ≤ length bytes.now }
-    ensures { result ≡ number_at 8 bytes.now at }
-{
-    let mut number: u64 = 0;
-    let mut read: usize = 0;
-    while read < 8 {
-        number = number * 256 + (byte_in(bytes, at + read) as u64);
-        read += 1;
+    match after(bytes, at).first_chunk() {
+        Some(eight) => u64::from_be_bytes(*eight),
+        None => number_of_width(bytes, at, 8),
     }
-    number
 }
 
 // The length in the four bytes from a place on.
@@ -90,16 +52,10 @@ pub fn length_at(bytes: &[u8], at: usize) -> usize
     number_of_width(bytes, at, 4) as usize
 }
 
-// The float whose bits the eight bytes from a place on are. Each way ends by itself: where the two met before `from_bits`, the compiler would read
-// byte by byte.
+// The float whose bits the eight bytes from a place on are.
 pub fn float_at(bytes: &[u8], at: usize) -> f64
     ensures { result ≡ float_at bytes.now at }
 {
-    if at < bytes.len() {
-        if 8 <= bytes.len() - at {
-            return float64::from_bits(whole_number(bytes, at));
-        }
-    }
     float64::from_bits(number_at(bytes, at))
 }
 
@@ -107,63 +63,43 @@ pub fn float_at(bytes: &[u8], at: usize) -> f64
 pub fn after(bytes: &[u8], count: usize) -> &[u8]
     ensures { result.now ≡ drop count bytes.now }
 {
-    if count < bytes.len() {
-        return &bytes[count..];
-    }
-    let end = bytes.len();
-    &bytes[end..]
+    bytes.get(count..).unwrap_or(&[])
 }
 
-// Writes the byte that stands `offset` places after `at`.
-fn put_after(buffer: &mut [u8], at: usize, offset: usize, byte: u8)
-    ensures { buffer.new ≡ set buffer.old (at + offset) byte }
+// Writes bytes from a place on, as far as the buffer reaches. Where it has room for all, the compiler makes one store of a number's.
+fn put_bytes(buffer: &mut [u8], at: usize, bytes: &[u8])
+    ensures { buffer.new ≡ written buffer.old at bytes.now }
 {
     if at < buffer.len() {
-        if offset < buffer.len() - at {
-            buffer[at + offset] = byte;
+        let room = buffer.len() - at;
+        if bytes.len() <= room {
+            buffer[at..at + bytes.len()].copy_from_slice(bytes);
+        } else {
+            buffer[at..].copy_from_slice(&bytes[..room]);
         }
     }
 }
 
 // Writes a byte at a place.
+#[tactic(auto, unfolding(crate::specs::Written::written))]
 pub fn put_byte(buffer: &mut [u8], at: usize, byte: u8)
     ensures { buffer.new ≡ set buffer.old at byte }
 {
-    put_after(buffer, at, 0, byte)
+    put_bytes(buffer, at, &[byte])
 }
 
-// Writes the last bytes of a number, as many as `width` says, from a place on; the last one first.
-fn put_of_width(buffer: &mut [u8], at: usize, width: usize, number: u64)
-    ensures { buffer.new ≡ written buffer.old at (bytes_of width number) }
-{
-    let mut left = width;
-    let mut rest = number;
-    while 0 < left {
-        left -= 1;
-        let byte = (rest % 256) as u8;
-        put_after(buffer, at, left, byte);
-        rest /= 256;
-    }
-}
-
-// Writes a number into the eight bytes from a place on, the last byte first.
+// Writes a number into the eight bytes from a place on.
 pub fn put_number(buffer: &mut [u8], at: usize, number: u64)
     ensures { buffer.new ≡ written buffer.old at (bytes_of 8 number) }
 {
-    let mut left: usize = 8;
-    let mut rest = number;
-    while 0 < left {
-        left -= 1;
-        put_after(buffer, at, left, (rest % 256) as u8);
-        rest /= 256;
-    }
+    put_bytes(buffer, at, &number.to_be_bytes())
 }
 
-// Writes a length into the four bytes from a place on.
+// Writes a length into the four bytes from a place on: the last four of eight.
 pub fn put_length(buffer: &mut [u8], at: usize, size: usize)
     ensures { buffer.new ≡ written buffer.old at (bytes_of 4 size) }
 {
-    put_of_width(buffer, at, 4, size as u64)
+    put_bytes(buffer, at, &(size as u64).to_be_bytes()[4..])
 }
 
 // Writes a float's bits into the eight bytes from a place on.

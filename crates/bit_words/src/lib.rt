@@ -1,2 +1,2 @@
-// Sets of numbers kept in words, a bit for each number: definitions and laws in specs/, no function.
+// Sets of numbers kept in words, a bit for each number: definitions in specs/, laws in proofs/, no function.
 #![tactic(auto)]

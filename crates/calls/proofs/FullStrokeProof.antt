@@ -2,18 +2,18 @@
 use Rattle.std.proofs.Math.Path.{refl}
 use Rattle.std.proofs.Common.{ap, subst}
 use mathlib.Core.List.{List, [], ◌∷◌}
-use Rattle.std.specs.Prelude.{Float}
+use Rattle.std.specs.Prelude.{Float, Err, Ok, Result}
 use Rattle.float64.proofs.SignLaws.{le→nonneg, nonneg→nonneg_or_nan}
 use Rattle.t_mesh.specs.Tmesh.{Axis, new_tmesh}
 use Rattle.t_mesh.specs.declared.t_mesh.Tmesh.{Tmesh}
 use Rattle.surface.specs.SetPoint.{set_point}
-use Rattle.surface.specs.declared.evaluation.EvaluationAnswer.{EvaluationAnswer}
-use Rattle.surface.specs.declared.evaluation.EvaluationAnswer.TheVariants.{Is, Refused}
 use Rattle.calls.specs.Calls.{Call, insertion, evaluation, set_point_call, question, pulling, Answer, inserted, evaluated, questioned, pulled, Event, map_after, run_of}
 use Rattle.calls.specs.FullStroke.{Each, DoneInUnit, EvaluationInUnit, SetPointInUnit, NeverPastFullStroke}
 use Rattle.calls.specs.Sound.{Sound, AnswerInUnit, ValueInUnitAt}
 use Rattle.calls.proofs.SoundLaws.{new_sound, insertion_sound, evaluation_sound, set_point_sound, question_sound, pulling_sound}
 use Rattle.calls.proofs.WithdrawalLaws.{by_either_rule}
+use Rattle.control_point.specs.declared.refusal.Refusal.{Refusal}
+use Rattle.surface.specs.declared.evaluation.Evaluation.{Evaluation}
 
 -- ---- what is said of an event, by its call and its answer
 -- of the answer to a set-point; of any other call nothing
@@ -34,13 +34,13 @@ module _ (axis : Axis) where
   event_in_both : (call : Call) (answer : Answer) → AnswerInUnit axis answer → SaidOf axis call answer → InBoth axis (record { call = call; answer = answer })
   event_in_both call answer h k = (
     (λ value equal. subst (AnswerInUnit axis) equal h),
-    (λ s t value same equal. subst (λ (own : Call). SaidOf axis own (evaluated (Is value))) same (subst (SaidOf axis call) equal k)),
+    (λ s t value same equal. subst (λ (own : Call). SaidOf axis own (evaluated (Ok value))) same (subst (SaidOf axis call) equal k)),
   )
 
   -- a value that is in 0 to 1 is so whatever its weight
-  answer_in_unit : (s t : Float) (answer : EvaluationAnswer) → ValueInUnitAt axis s t answer → AnswerInUnit axis (evaluated answer)
-  answer_in_unit s t (Is value) h = λ positive finite. h.1.1
-  answer_in_unit s t (Refused refusal) h = tt
+  answer_in_unit : (s t : Float) (answer : Result Evaluation Refusal) → ValueInUnitAt axis s t answer → AnswerInUnit axis (evaluated answer)
+  answer_in_unit s t (Ok value) h = λ positive finite. h.1.1
+  answer_in_unit s t (Err refusal) h = tt
 
   each_of_both : (events : List Event) → Each (InBoth axis) events → Each (EvaluationInUnit axis) events × Each (SetPointInUnit axis) events
   each_of_both [] h = (tt, tt)

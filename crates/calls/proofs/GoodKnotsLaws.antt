@@ -1,7 +1,7 @@
 -- Each entry of a ray through a good mesh is a NaN or not negative, since it is an interval, a weight, a walk's sum or 0.0; so a point's
 -- knots are counted outward from its coordinate by such steps, and the law of the basis says the rest.
 use Prim.Native.Nat.{ℕ, zero, suc}
-use Rattle.std.specs.Prelude.{Bool, List, [], ◌∷◌, T, Float, replicate}
+use Rattle.std.specs.Prelude.{Option, Some, None, Bool, List, [], ◌∷◌, T, Float, replicate, Err, Ok, Result}
 use Rattle.std.specs.Float.{binary64}
 use Rattle.std.specs.Float.Ieee.{of_bits, add, is_nan, le, fits}
 use Rattle.float64.specs.Literals.{zero_literal}
@@ -10,23 +10,17 @@ use Rattle.basis.specs.Binary64.{knots}
 use Rattle.basis.proofs.NonNegativeLaws.{formula_nonneg_or_nan, non_negative}
 use Rattle.control_point.specs.Point.{is_made, is_border, is_opening}
 use Rattle.control_point.specs.Sides.{Sides}
-use Rattle.control_point.specs.declared.sides.SideAnswer.TheVariants.{Is as IsSide}
 use Rattle.control_point.specs.declared.t_mesh_direction.TmeshDirection.{TmeshDirection}
 use Rattle.control_point.specs.declared.t_mesh_direction.TmeshDirection.TheVariants.{Up, Right, Down, Left}
 use Rattle.control_point.specs.declared.t_mesh_control_point.Side.{Side}
 use Rattle.control_point.specs.declared.t_mesh_control_point.Side.TheVariants.{Link, Border, Opening}
-use Rattle.navigation.specs.declared.walk.Walk.{Walk}
-use Rattle.navigation.specs.declared.walk.Walk.TheVariants.{Reached, Refused as NoWalk}
 use Rattle.store.specs.Store.{store_sides, store_point}
 use Rattle.store.specs.declared.store.Store.{Store}
 use Rattle.ray_approach.specs.Approach.{approach_of}
-use Rattle.ray_entry.specs.Entry.{after_walk, corner_walk, face_walk, side_entry, point_entry, over_face, around_face, after_approach, entry_of}
+use Rattle.ray_entry.specs.Entry.{after_walk, corner_walk, face_walk, side_entry, point_entry, over_face, around_face, after_approach, entry_from, entry_of}
 use Rattle.ray.specs.Ray.{Ray, entries, refused, before, after_entry, ray_from, ray_of}
 use Rattle.ray.specs.Knots.{first, second, five_knots, after_ray, knots_at, point_knot_vectors}
-use Rattle.ray_approach.specs.declared.approach.Approach.{Approach}
-use Rattle.ray_approach.specs.declared.approach.Approach.TheVariants.{Aligned, Crossed, Refused as NoApproach}
-use Rattle.ray_entry.specs.declared.entry.Entry.{Entry}
-use Rattle.ray_entry.specs.declared.entry.Entry.TheVariants.{Is, Refused as NoEntry}
+use Rattle.ray_approach.specs.declared.approach.Approach.TheVariants.{Aligned, Crossed}
 use Rattle.ray_entry.specs.declared.entry.Front.{Front}
 use Rattle.ray.specs.declared.knots.KnotsAnswer.{KnotsAnswer}
 use Rattle.t_mesh.specs.Tmesh.{store_of, blank_knots}
@@ -38,12 +32,16 @@ use Rattle.calls.proofs.ListLaws.{set_case}
 use Rattle.calls.proofs.RowsLaws.{OfRows, all_rows}
 use Rattle.calls.specs.Good.{NotNegative, GoodSide, GoodSides, GoodStore, GoodWalk, GoodEntry, GoodEntries, GoodRay, GoodBasis, GoodKnots, GoodRows}
 use Rattle.calls.proofs.GoodLaws.{zero_not_negative, store_sides_lem, walk_sum}
+use Rattle.control_point.specs.declared.refusal.Refusal.{Refusal}
+use Rattle.navigation.specs.declared.walk.Walk.{Walk}
+use Rattle.ray_approach.specs.declared.approach.Approach.{Approach}
+use Rattle.ray_entry.specs.declared.entry.Entry.{Entry}
 
 -- ---- entries
-after_walk_lem : (walk : Walk) (next : ℕ → Float → Entry) → GoodWalk walk → ((n : ℕ) (sum : Float) → NotNegative sum → GoodEntry (next n sum))
+after_walk_lem : (walk : Result Walk Refusal) (next : ℕ → Float → Result Entry Refusal) → GoodWalk walk → ((n : ℕ) (sum : Float) → NotNegative sum → GoodEntry (next n sum))
     → GoodEntry (after_walk walk next)
-after_walk_lem (Reached n sum moves) next h k = k n sum h
-after_walk_lem (NoWalk refusal) next h k = tt
+after_walk_lem (Ok walk) next h k = k walk.at walk.sum h
+after_walk_lem (Err refusal) next h k = tt
 
 -- a sum from 0.0
 from_zero : (x : Float) → NotNegative x → NotNegative (add binary64 zero_literal x)
@@ -60,7 +58,7 @@ module _ (sides : Sides) (good : GoodSides sides) (made : ℕ) (d : TmeshDirecti
   at_point at met =
       cond_case (is_made made at) (λ answer. GoodEntry (side_entry sides made d answer at met)) _ _ (λ _. by_side (sides at d) (good at d)) (λ _. tt)
     where
-      by_side : (side : Side) → GoodSide side → GoodEntry (side_entry sides made d (IsSide side) at met)
+      by_side : (side : Side) → GoodSide side → GoodEntry (side_entry sides made d (Ok side) at met)
       by_side (Link n interval) h = from_zero interval h
       by_side (Border weight) h = cond_case met NotNegative _ _ (λ _. zero_not_negative) (λ _. from_zero weight h)
       by_side Opening h =
@@ -76,21 +74,22 @@ module _ (sides : Sides) (good : GoodSides sides) (made : ℕ) (d : TmeshDirecti
       (λ _. after_walk_lem (corner_walk sides made d at) _ (corner_walk_lem at) (λ corner sum _. over_face_lem corner met (add binary64 r sum)))
       (λ _. over_face_lem at met r)
 
-  after_approach_lem : (approach : Approach) (met : Bool) → GoodEntry (after_approach sides made d approach met)
-  after_approach_lem (Aligned at) met = at_point at met
-  after_approach_lem (Crossed at r) met = around_face_lem at met r
-  after_approach_lem (NoApproach refusal) met = tt
+  after_approach_lem : (approach : Result Approach Refusal) (met : Bool) → GoodEntry (after_approach sides made d approach met)
+  after_approach_lem (Ok (Aligned at)) met = at_point at met
+  after_approach_lem (Ok (Crossed at r)) met = around_face_lem at met r
+  after_approach_lem (Err refusal) met = tt
 
   -- ---- rays
   module _ (e : Float) where
     next_entry : (front : Front) → GoodEntry (entry_of e sides made d front)
-    next_entry front =
-        cond_case front.marching GoodEntry _ _
-        (λ _.
-        cond_case (is_border (sides front.at d)) GoodEntry _ _
-        (λ _. at_point front.at front.bordered)
-        (λ _. after_approach_lem (approach_of e sides made d front.at front.distance) front.bordered))
-        (λ _. at_point front.at front.bordered)
+    next_entry front = by_march front.march
+      where
+        by_march : (march : Option Float) → GoodEntry (entry_from e sides made d front.at front.bordered march)
+        by_march (Some r) =
+            cond_case (is_border (sides front.at d)) GoodEntry _ _
+            (λ _. at_point front.at front.bordered)
+            (λ _. after_approach_lem (approach_of e sides made d front.at r) front.bordered)
+        by_march None = at_point front.at front.bordered
 
     entries_from : (n : ℕ) (front : Front) → GoodRay (ray_from e sides made d n front)
     unfolding ray_from
@@ -106,9 +105,9 @@ module _ (sides : Sides) (good : GoodSides sides) (made : ℕ) (d : TmeshDirecti
             each (suc i) = k i
         in_front value (refused refusal) h k = tt
 
-        after : (entry : Entry) → GoodEntry entry → (rest : Front → Ray) → ((next : Front) → GoodRay (rest next)) → GoodRay (after_entry entry rest)
-        after (Is value next) h rest k = in_front value (rest next) h (k next)
-        after (NoEntry refusal) h rest k = tt
+        after : (entry : Result Entry Refusal) → GoodEntry entry → (rest : Front → Ray) → ((next : Front) → GoodRay (rest next)) → GoodRay (after_entry entry rest)
+        after (Ok entry) h rest k = in_front entry.value (rest entry.front) h (k entry.front)
+        after (Err refusal) h rest k = tt
 
     pub ray_entries : (start n : ℕ) → GoodRay (ray_of e sides made start d n)
     unfolding ray_of

@@ -1,7 +1,7 @@
 -- Every change of a mesh keeps it good: the intervals that an insertion writes are sums of those that stand there, or one of them times
 -- a ratio from 0 to 1, and its weights are copied.
 use Prim.Native.Nat.{ℕ, zero, suc, ◌+◌, ◌-◌}
-use Rattle.std.specs.Prelude.{◌≡◌, Bool, true, ◌&&◌, T, eqb, ltb}
+use Rattle.std.specs.Prelude.{◌≡◌, Bool, true, ◌&&◌, T, eqb, ltb, Err, None, Ok, Option, Result, Some, ⊤}
 use Rattle.std.proofs.Common.{subst}
 use Rattle.std.specs.Float.Ieee.{Float, binary64, of_bits, add, sub, mul, le, fits, neg}
 use Rattle.std.specs.Float.Ieee.Fits.{and_l, and_r, add-fits, sub-fits}
@@ -15,20 +15,13 @@ use Rattle.control_point.specs.Point.{side_of, with_side, moved_from, loose_poin
 use Rattle.control_point.proofs.PointLaws.{side_with, side_moved}
 use Rattle.control_point.specs.Sides.{Sides, sides_of, sides_with}
 use Rattle.navigation.specs.Walk.{step_over, arrive, onward, walk_of}
-use Rattle.control_point.specs.declared.refusal.Outcome.{Outcome}
-use Rattle.control_point.specs.declared.refusal.Outcome.TheVariants.{Done, Refused}
 use Rattle.control_point.specs.declared.t_mesh_direction.TmeshDirection.{TmeshDirection}
 use Rattle.control_point.specs.declared.t_mesh_direction.TmeshDirection.TheVariants.{Up, Right, Down, Left}
 use Rattle.control_point.specs.declared.t_mesh_control_point.Side.{Side}
 use Rattle.control_point.specs.declared.t_mesh_control_point.Side.TheVariants.{Link, Border, Opening}
 use Rattle.control_point.specs.declared.t_mesh_control_point.TmeshControlPoint.{TmeshControlPoint}
-use Rattle.navigation.specs.declared.walk.Walk.{Walk}
-use Rattle.navigation.specs.declared.walk.Walk.TheVariants.{Reached, Refused as NoWalk}
 use Rattle.search.specs.Search.{judge_at, concluded, move_over, seek_from, walked, find_inferred_connection}
-use Rattle.search.specs.declared.search.Found.{Found}
-use Rattle.search.specs.declared.search.Found.TheVariants.{At, Nothing, Failed}
-use Rattle.search.specs.declared.search.Judged.{Judged}
-use Rattle.search.specs.declared.search.Judged.TheVariants.{On, Here, Ends, Fails}
+use Rattle.search.specs.declared.search.Judged.TheVariants.{On, Here, Ends}
 use Rattle.store.specs.Store.{store_sides, store_point, with_point, with_side_at, with_new, linked, settled, connect_points}
 use Rattle.store.specs.declared.store.Store.{Store}
 use Rattle.insertion.specs.Insert.{cut, point_in_line, placed, sought_side, border_or, new_side, with_new_side, tears, unless_torn, first_side, with_first, second_side, sided, insert_point}
@@ -39,6 +32,10 @@ use Rattle.counting.proofs.BoolLaws.{cond_case}
 use Rattle.calls.proofs.ListLaws.{set_case}
 use Rattle.calls.proofs.InsertionLaws.{insertion_case}
 use Rattle.calls.specs.Good.{NotNegative, GoodSide, GoodSides, GoodPoint, GoodStore, GoodWalk, GoodFound, GoodNewSide}
+use Rattle.control_point.specs.declared.refusal.Refusal.{Refusal}
+use Rattle.navigation.specs.declared.walk.Walk.{Walk}
+use Rattle.control_point.specs.declared.t_mesh_control_point.LinkEnd.{LinkEnd}
+use Rattle.search.specs.declared.search.Judged.{Judged}
 
 -- ---- points
 pub zero_not_negative : NotNegative zero_literal
@@ -105,12 +102,12 @@ connect_points_call store good first other d interval h = either (connectable (s
         (moved_from_lem _ (store_point store first) d interval
         (with_side_lem (store_point store other) (flip_of d) (Link first interval) (good other) h) (good first))
 
-    either : (outcome : Outcome) → GoodStore (settled outcome (linked store first other d interval) store).store
-    either Done = joined
-    either (Refused refusal) = good
+    either : (outcome : Result ⊤ Refusal) → GoodStore (settled outcome (linked store first other d interval) store).store
+    either (Ok tt) = joined
+    either (Err refusal) = good
 
 -- ---- walks
-step_over_lem : (side : Side) (next : ℕ → Float → Walk) → GoodSide side → ((n : ℕ) (interval : Float) → NotNegative interval → GoodWalk (next n interval))
+step_over_lem : (side : Side) (next : ℕ → Float → Result Walk Refusal) → GoodSide side → ((n : ℕ) (interval : Float) → NotNegative interval → GoodWalk (next n interval))
     → GoodWalk (step_over side next)
 step_over_lem (Link n interval) next h k = k n interval h
 step_over_lem (Border weight) next h k = tt
@@ -118,7 +115,7 @@ step_over_lem Opening next h k = tt
 
 module _ (sides : Sides) (good : GoodSides sides) (made : ℕ) where
   module _ (travel watch : TmeshDirection) where
-    arrived : (at : ℕ) (sum : Float) (moves : ℕ) (next : ℕ → Float → Walk) → NotNegative sum
+    arrived : (at : ℕ) (sum : Float) (moves : ℕ) (next : ℕ → Float → Result Walk Refusal) → NotNegative sum
         → ((n : ℕ) (interval : Float) → NotNegative interval → GoodWalk (next n interval))
         → GoodWalk (arrive sides made travel watch at sum moves next)
     arrived at sum moves next h k =
@@ -141,17 +138,17 @@ module _ (sides : Sides) (good : GoodSides sides) (made : ℕ) where
       (λ _. tt)
 
 -- ---- the search
-conclusion : (judged : Judged) (n : ℕ) (interval : Float) (rest : Found) → NotNegative interval → GoodFound rest
+conclusion : (judged : Result Judged Refusal) (n : ℕ) (interval : Float) (rest : Result (Option LinkEnd) Refusal) → NotNegative interval → GoodFound rest
     → GoodFound (concluded judged n interval rest)
-conclusion On n interval rest h k = k
-conclusion Here n interval rest h k = h
-conclusion Ends n interval rest h k = tt
-conclusion (Fails refusal) n interval rest h k = tt
+conclusion (Ok On) n interval rest h k = k
+conclusion (Ok Here) n interval rest h k = h
+conclusion (Ok Ends) n interval rest h k = tt
+conclusion (Err refusal) n interval rest h k = tt
 
-after_walk_lem : (walk : Walk) (next : ℕ → Float → Found) → GoodWalk walk → ((n : ℕ) (sum : Float) → NotNegative sum → GoodFound (next n sum))
+after_walk_lem : (walk : Result Walk Refusal) (next : ℕ → Float → Result (Option LinkEnd) Refusal) → GoodWalk walk → ((n : ℕ) (sum : Float) → NotNegative sum → GoodFound (next n sum))
     → GoodFound (walked walk next)
-after_walk_lem (Reached n sum moves) next h k = k n sum h
-after_walk_lem (NoWalk refusal) next h k = tt
+after_walk_lem (Ok walk) next h k = k walk.at walk.sum h
+after_walk_lem (Err refusal) next h k = tt
 
 module _ (e : Float) (sides : Sides) (made p : ℕ) (f : TmeshDirection) where
   found_from : (left at : ℕ) (measure sum interval : Float) → NotNegative interval
@@ -164,7 +161,7 @@ module _ (e : Float) (sides : Sides) (made p : ℕ) (f : TmeshDirection) where
       conclusion (judge_at e sides made p f n measure (add binary64 sum k)) n interval _ h
       (found_from left n measure (add binary64 sum k) interval h))
     where
-      over : (side : Side) (next : ℕ → Float → Found) → ((n : ℕ) (k : Float) → GoodFound (next n k)) → GoodFound (move_over side next)
+      over : (side : Side) (next : ℕ → Float → Result (Option LinkEnd) Refusal) → ((n : ℕ) (k : Float) → GoodFound (next n k)) → GoodFound (move_over side next)
       over (Link n k) next rest = rest n k
       over (Border weight) next rest = tt
       over Opening next rest = tt
@@ -181,10 +178,10 @@ module _ (e : Float) (sides : Sides) (made p : ℕ) (f : TmeshDirection) where
 sides_opened_lem : (sides : Sides) (p : ℕ) (f : TmeshDirection) → GoodSides sides → GoodSides (sides_with sides p f Opening)
 sides_opened_lem sides p f good n d = cond_case (eqb n p && same_direction d f) GoodSide Opening (sides n d) (λ _. tt) (λ _. good n d)
 
-sought_side_lem : (found : Found) → GoodFound found → GoodNewSide (sought_side found)
-sought_side_lem (At n interval) h = h
-sought_side_lem Nothing h = tt
-sought_side_lem (Failed refusal) h = tt
+sought_side_lem : (found : Result (Option LinkEnd) Refusal) → GoodFound found → GoodNewSide (sought_side found)
+sought_side_lem (Ok (Some end)) h = h
+sought_side_lem (Ok None) h = tt
+sought_side_lem (Err refusal) h = tt
 
 border_or_lem : (side : Side) (otherwise : NewSide) → GoodSide side → GoodNewSide otherwise → GoodNewSide (border_or side otherwise)
 border_or_lem (Border weight) otherwise h k = h
@@ -197,7 +194,7 @@ new_side_lem e sides made con p f good =
     border_or_lem (sides con f) (sought_side found) (good con f)
     (sought_side_lem found (found_interval e (sides_with sides p f Opening) made p f (sides_opened_lem sides p f good)))
   where
-    found : Found
+    found : Result (Option LinkEnd) Refusal
     found = find_inferred_connection e (sides_with sides p f Opening) made p f
 
 with_new_side_lem : (store : Store) → GoodStore store → (p : ℕ) (f : TmeshDirection) (new : NewSide) → GoodNewSide new

@@ -1,5 +1,5 @@
 -- What NotEmpty says, by computing: every call runs on closed values.
-use Rattle.std.specs.Prelude.{List, refl, Float}
+use Rattle.std.specs.Prelude.{List, refl, Float, Err, Ok}
 use Rattle.std.proofs.Common.{sym, subst}
 use Rattle.std.specs.Float.Ieee.{of_bits, of_fields, add, sub, mul, div, sum, round, units, odd, size, span, climb, neg, le, lt, eq}
 use Rattle.float64.specs.Literals.{zero_literal, one_literal}
@@ -13,7 +13,7 @@ use Rattle.navigation.specs.Walk.{onward, walk_of}
 use Rattle.search.specs.Search.{judge_at, seek_from, find_inferred_connection}
 use Rattle.store.specs.Store.{connect_points}
 use Rattle.insertion.specs.Insert.{checked, checked_intervals, placed, new_side, first_side, with_first, second_side, sided, insert_point}
-use Rattle.insertion.specs.declared.insertion.InsertAnswer.TheVariants.{Done, Torn, Refused}
+use Rattle.insertion.specs.declared.insertion.Insertion.TheVariants.{Done, Torn}
 use Rattle.ray_approach.specs.Approach.{approach_in, approach_of}
 use Rattle.ray.specs.Ray.{ray_from, ray_of}
 use Rattle.ray.specs.Knots.{knots_at, point_knot_vectors}
@@ -37,9 +37,9 @@ PlacedInUnit axis (question cell) = Unit {0}
 PlacedInUnit axis (pulling n pull) = Unit {0}
 
 abbrev NotDone : Answer → Type 0
-NotDone (inserted (Done opened links)) = ⊥
-NotDone (inserted (Torn opened links)) = Unit {0}
-NotDone (inserted (Refused refusal)) = Unit {0}
+NotDone (inserted (Ok (Done opened links))) = ⊥
+NotDone (inserted (Ok (Torn opened links))) = Unit {0}
+NotDone (inserted (Err refusal)) = Unit {0}
 NotDone (evaluated answer) = Unit {0}
 NotDone (questioned answer) = Unit {0}
 NotDone (pulled outcome) = Unit {0}

@@ -1,14 +1,13 @@
 -- What holds of the rows of a map, and still holds with the knots of a point in the row of its number, holds of the rows that a building leaves.
 use Prim.Native.Nat.{ℕ, zero, suc, ◌+◌}
-use Rattle.std.specs.Prelude.{List, Float, set}
-use Rattle.control_point.specs.declared.refusal.Outcome.{Outcome}
-use Rattle.control_point.specs.declared.refusal.Outcome.TheVariants.{Done, Refused}
+use Rattle.std.specs.Prelude.{List, Float, set, Err, Ok, Result, ⊤}
 use Rattle.ray.specs.Knots.{point_knot_vectors}
 use Rattle.ray.specs.declared.knots.PointKnots.{PointKnots}
 use Rattle.t_mesh.specs.Tmesh.{store_of, is_listed}
 use Rattle.t_mesh.specs.declared.t_mesh.Tmesh.{Tmesh}
 use Rattle.knot_vectors.specs.Knots.{AllKnots, all, none, on_all, in_row, with_row, rows_from, all_knots}
 use Rattle.counting.proofs.BoolLaws.{cond_case}
+use Rattle.control_point.specs.declared.refusal.Refusal.{Refusal}
 
 -- rows that are not refused
 abbrev pub OfRows : (List PointKnots → Type 0) → AllKnots → Type 0
@@ -17,9 +16,9 @@ OfRows Holds (none refusal) = Unit {0}
 
 module _ (Holds : List PointKnots → Type 0) (e : Float) (map : Tmesh)
     (stored : (rows : List PointKnots) (n : ℕ) → Holds rows → Holds (set rows n (point_knot_vectors e (store_of map) n).knots)) where
-  in_row_lem : (outcome : Outcome) (rows : List PointKnots) (n : ℕ) → Holds rows → OfRows Holds (in_row outcome (point_knot_vectors e (store_of map) n).knots n rows)
-  in_row_lem Done rows n h = stored rows n h
-  in_row_lem (Refused refusal) rows n h = tt
+  in_row_lem : (outcome : Result ⊤ Refusal) (rows : List PointKnots) (n : ℕ) → Holds rows → OfRows Holds (in_row outcome (point_knot_vectors e (store_of map) n).knots n rows)
+  in_row_lem (Ok tt) rows n h = stored rows n h
+  in_row_lem (Err refusal) rows n h = tt
 
   with_row_lem : (rows : List PointKnots) (n : ℕ) → Holds rows → OfRows Holds (with_row e map n rows)
   with_row_lem rows n h =

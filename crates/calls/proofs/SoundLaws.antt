@@ -1,7 +1,7 @@
 -- `Tmesh::new` makes a sound map, and insertion, evaluation, set-point, question and the setting of a pull keep it sound; an evaluation of a sound map is a mean of numbers in 0 to 1
 -- with weights that are products of two basis functions and a pull, so NaN or not negative.
 use Prim.Native.Nat.{ℕ, zero, suc, ◌+◌}
-use Rattle.std.specs.Prelude.{◌≡◌, refl, Bool, cond, List, [], ◌∷◌, T, Float, get_or, set, replicate}
+use Rattle.std.specs.Prelude.{◌≡◌, refl, Bool, cond, List, [], ◌∷◌, T, Float, get_or, set, replicate, Err, Ok, Result, ⊤}
 use Rattle.std.proofs.Common.{sym, subst}
 use Rattle.std.proofs.Math.Bool.{true, false}
 use Rattle.std.proofs.lemmas.Bool.{false≢true}
@@ -17,15 +17,12 @@ use Rattle.float64.proofs.MeanLaws.{Bounded, start, step, finish}
 use Rattle.basis.specs.Binary64.{binary64_arithmetic, knots}
 use Rattle.basis.specs.Formula.{formula}
 use Rattle.control_point.specs.Point.{side_of, blank, loose_point}
-use Rattle.control_point.specs.declared.refusal.Outcome.{Outcome}
-use Rattle.control_point.specs.declared.refusal.Outcome.TheVariants.{Done as Built, Refused as NotBuilt}
 use Rattle.control_point.specs.declared.t_mesh_direction.TmeshDirection.{TmeshDirection}
 use Rattle.control_point.specs.declared.t_mesh_direction.TmeshDirection.TheVariants.{Up, Right, Down, Left}
 use Rattle.control_point.specs.declared.t_mesh_control_point.Side.{Side}
 use Rattle.store.specs.declared.store.Store.{Store}
 use Rattle.insertion.specs.Insert.{insert_point}
-use Rattle.insertion.specs.declared.insertion.InsertAnswer.{InsertAnswer}
-use Rattle.insertion.specs.declared.insertion.InsertAnswer.TheVariants.{Done, Torn, Refused}
+use Rattle.insertion.specs.declared.insertion.Insertion.TheVariants.{Done, Torn}
 use Rattle.t_mesh.specs.Tmesh.{Axis, X, Y, Z, coordinate, unpulled, no_place, position_of, pull_of, store_of, is_listed, corner, corner_store, origin, blank_knots, new_tmesh}
 use Rattle.t_mesh.specs.Insertion.{after_insertion, add_control_point}
 use Rattle.t_mesh.specs.declared.t_mesh.Place.{Place}
@@ -37,8 +34,6 @@ use Rattle.grid_index.specs.Index.{no_knots}
 use Rattle.surface.specs.Evaluation.{knots_of, basis_of, weight_of, sum_from, share_with, mean_with, total_weight, value_of, with_knots, subs_of, evaluated_by}
 use Rattle.surface.specs.SetPoint.{weighty, where_weighty, weighed, set_point}
 use Rattle.surface.proofs.SetPointLaws.{set_point_case}
-use Rattle.surface.specs.declared.evaluation.EvaluationAnswer.{EvaluationAnswer}
-use Rattle.surface.specs.declared.evaluation.EvaluationAnswer.TheVariants.{Is, Refused as NoValue}
 use Rattle.knot_vectors.specs.declared.knots.Generated.{Generated}
 use Rattle.cells.specs.Cells.{cell_points}
 use Rattle.calls.specs.Calls.{evaluated}
@@ -51,6 +46,9 @@ use Rattle.calls.proofs.GoodKnotsLaws.{blank_knots_lem, no_knots_lem, good_rows}
 use Rattle.calls.proofs.PullingLaws.{pulled_case}
 use Rattle.calls.proofs.RowsLaws.{OfRows}
 use Rattle.calls.specs.Sound.{ListedInUnit, Sound, ValueInUnit, ValueInUnitAt, AnswerInUnit}
+use Rattle.control_point.specs.declared.refusal.Refusal.{Refusal}
+use Rattle.insertion.specs.declared.insertion.Insertion.{Insertion}
+use Rattle.surface.specs.declared.evaluation.Evaluation.{Evaluation}
 
 -- ---- listed places
 module _ (axis : Axis) where
@@ -143,7 +141,7 @@ new_sound axis weight at_bottom_left at_bottom_right at_top_right at_top_left h 
 
 -- ---- insertion
 pub insertion_sound : (axis : Axis) (e : Float) (map : Tmesh) → Sound axis map → (con : ℕ) (d : TmeshDirection) (ratio : Float) (position : Position)
-    → ((opened links : ℕ) → (add_control_point e map con d ratio position).answer ≡ Done opened links → InUnit (coordinate axis position))
+    → ((opened links : ℕ) → (add_control_point e map con d ratio position).answer ≡ Ok (Done opened links) → InUnit (coordinate axis position))
     → Sound axis (add_control_point e map con d ratio position).map
 unfolding add_control_point
 insertion_sound axis e map sound con d ratio position =
@@ -161,14 +159,14 @@ insertion_sound axis e map sound con d ratio position =
     pulls : (n : ℕ) → GoodPlace (get_or (set map.mesh.places next (unpulled position)) n no_place)
     pulls n = set_case GoodPlace map.mesh.places next n (unpulled position) no_place one_not_negative (sound.pulls n)
 
-    by_answer : (answer : InsertAnswer) (store : Store) → GoodStore store
-        → ((opened links : ℕ) → answer ≡ Done opened links → InUnit (coordinate axis position))
+    by_answer : (answer : Result Insertion Refusal) (store : Store) → GoodStore store
+        → ((opened links : ℕ) → answer ≡ Ok (Done opened links) → InUnit (coordinate axis position))
         → Sound axis (after_insertion map position answer store)
-    by_answer (Done opened links) store good h =
+    by_answer (Ok (Done opened links)) store good h =
         record { mesh = good; rows = sound.rows; points = listing true (λ _. h opened links refl); pulls = pulls }
-    by_answer (Torn opened links) store good h =
+    by_answer (Ok (Torn opened links)) store good h =
         record { mesh = good; rows = sound.rows; points = listing false (λ e. absurd (false≢true e)); pulls = pulls }
-    by_answer (Refused refusal) store good h = sound
+    by_answer (Err refusal) store good h = sound
 
 -- ---- evaluation
 module _ (axis : Axis) (map : Tmesh) (sound : Sound axis map) (s t : Float) where
@@ -199,7 +197,7 @@ module _ (axis : Axis) (map : Tmesh) (sound : Sound axis map) (s t : Float) wher
   mean_in_unit : T (lt 0f (total_weight map s t)) → T (lt (total_weight map s t) (inf false)) → InUnit (mean_with (weight_of map s t) axis map)
   mean_in_unit = finish _ _ (sums_bounded 128 0 zero_literal zero_literal (rw literal_zero start))
 
-value_in_unit : (axis : Axis) (map : Tmesh) → Sound axis map → (s t : Float) → AnswerInUnit axis (evaluated (Is (value_of map s t)))
+value_in_unit : (axis : Axis) (map : Tmesh) → Sound axis map → (s t : Float) → AnswerInUnit axis (evaluated (Ok (value_of map s t)))
 unfolding value_of
 value_in_unit X map sound s t = mean_in_unit X map sound s t
 value_in_unit Y map sound s t = mean_in_unit Y map sound s t
@@ -224,22 +222,22 @@ pub evaluation_sound : (axis : Axis) (e : Float) (map : Tmesh) → Sound axis ma
 unfolding subs_of
 evaluation_sound axis e map sound s t = by_outcome (with_knots e map).outcome (with_knots e map).map (with_knots_lem axis e map sound)
   where
-    by_outcome : (outcome : Outcome) (map : Tmesh) → Sound axis map
+    by_outcome : (outcome : Result ⊤ Refusal) (map : Tmesh) → Sound axis map
         → AnswerInUnit axis (evaluated (evaluated_by outcome map s t).answer) × Sound axis (evaluated_by outcome map s t).map
-    by_outcome Built map sound = (value_in_unit axis map sound s t, sound)
-    by_outcome (NotBuilt refusal) map sound = (tt, sound)
+    by_outcome (Ok tt) map sound = (value_in_unit axis map sound s t, sound)
+    by_outcome (Err refusal) map sound = (tt, sound)
 
 -- ---- a set-point
 -- an evaluation's answer, with its weight tested
-weighed_in_unit : (axis : Axis) (answer : EvaluationAnswer) → AnswerInUnit axis (evaluated answer) → ValueInUnit axis (weighed answer)
+weighed_in_unit : (axis : Axis) (answer : Result Evaluation Refusal) → AnswerInUnit axis (evaluated answer) → ValueInUnit axis (weighed answer)
 unfolding where_weighty
-weighed_in_unit axis (Is value) h =
+weighed_in_unit axis (Ok value) h =
     cond_case (weighty value) (ValueInUnit axis) _ _
     (λ passed.
     let both = and_both (lt zero_literal value.weight) (lt value.weight (inf false)) passed in
     h (subst (λ (least : Float). T (lt least value.weight)) literal_zero (subst T (sym both.0) tt)) (subst T (sym both.1) tt))
     (λ _. tt)
-weighed_in_unit axis (NoValue refusal) h = tt
+weighed_in_unit axis (Err refusal) h = tt
 
 -- a float that passes the test lies in 0 to 1
 pub passes_in_unit : (x : Float) → in_unit x ≡ true → InUnit x
@@ -260,9 +258,9 @@ set_point_sound axis e map sound s t =
     (placed (passes_in_unit s both.0) (passes_in_unit t both.1) (weighed (subs_of e map s t).answer) (weighed_in_unit axis (subs_of e map s t).answer evaluated.0), evaluated.1))
     (λ _. (tt, sound))
   where
-    placed : InUnit s → InUnit t → (answer : EvaluationAnswer) → ValueInUnit axis answer → ValueInUnitAt axis s t answer
-    placed in_s in_t (Is value) h = (in_s, (in_t, h))
-    placed in_s in_t (NoValue refusal) h = tt
+    placed : InUnit s → InUnit t → (answer : Result Evaluation Refusal) → ValueInUnit axis answer → ValueInUnitAt axis s t answer
+    placed in_s in_t (Ok value) h = (in_s, (in_t, h))
+    placed in_s in_t (Err refusal) h = tt
 
 -- ---- a question
 pub question_sound : (axis : Axis) (e : Float) (map : Tmesh) → Sound axis map → (cell : ℕ) → Sound axis (cell_points e map cell).map

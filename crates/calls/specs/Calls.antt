@@ -1,20 +1,20 @@
 -- A list of calls on one map. Its entries are insertions, those that stay where they are torn (`add_control_point`) and those that are then withdrawn (`add_or_withdraw`), evaluations
 -- (`subs`), set-points (`set_point`), questions which points reach a cell (`cell_points`) and settings of a point's pull (`set_pull`), in any order, with any arguments, whatever they answer. Each gets
 -- the map as the one before left it, after a refusal too. The calls are the definitions that the contracts of the code cite; that of `add_control_point` is by the rule that lets torn insertions stay
--- (`added_staying`, crates/t_mesh/specs/InsertionLaws.antt).
-use Rattle.std.specs.Prelude.{ℕ, Bool, false, List, [], ◌∷◌, Float}
-use Rattle.control_point.specs.declared.refusal.Outcome.{Outcome}
+-- (`added_staying`, crates/t_mesh/proofs/InsertionLaws.antt).
+use Rattle.std.specs.Prelude.{ℕ, Bool, false, List, [], ◌∷◌, Float, Result, ⊤}
 use Rattle.control_point.specs.declared.t_mesh_direction.TmeshDirection.{TmeshDirection}
-use Rattle.insertion.specs.declared.insertion.InsertAnswer.{InsertAnswer}
 use Rattle.t_mesh.specs.Insertion.{add_by_rule}
 use Rattle.t_mesh.specs.declared.t_mesh.Position.{Position}
 use Rattle.t_mesh.specs.declared.t_mesh.Tmesh.{Tmesh}
 use Rattle.pull.specs.Pull.{set_pull}
 use Rattle.cells.specs.Cells.{cell_points}
-use Rattle.cells.specs.declared.CellAnswer.{CellAnswer}
 use Rattle.surface.specs.Evaluation.{subs_of}
 use Rattle.surface.specs.SetPoint.{set_point}
-use Rattle.surface.specs.declared.evaluation.EvaluationAnswer.{EvaluationAnswer}
+use Rattle.control_point.specs.declared.refusal.Refusal.{Refusal}
+use Rattle.insertion.specs.declared.insertion.Insertion.{Insertion}
+use Rattle.grid_index.specs.declared.Cell.{Cell}
+use Rattle.surface.specs.declared.evaluation.Evaluation.{Evaluation}
 
 -- a call: an insertion, withdrawn where it is torn or not, towards a direction of a point, at a ratio, of a position; an evaluation at (s, t); the set-point at
 -- (s, t); a question of a cell's byte; or the setting of a point's pull
@@ -27,10 +27,10 @@ pub data Call : Type 0 where
 
 -- a set-point answers as an evaluation does: a value, or a refusal
 pub data Answer : Type 0 where
-  inserted : InsertAnswer → Answer
-  evaluated : EvaluationAnswer → Answer
-  questioned : CellAnswer → Answer
-  pulled : Outcome → Answer
+  inserted : Result Insertion Refusal → Answer
+  evaluated : Result Evaluation Refusal → Answer
+  questioned : Result Cell Refusal → Answer
+  pulled : Result ⊤ Refusal → Answer
 
 -- whether a call withdraws a torn insertion
 abbrev pub call_withdraws : Call → Bool

@@ -1,6 +1,6 @@
 -- Worked examples of questions, on a map with border 1.0 and any four corners, at a closeness of a millionth. No reading looks at a position, so those of the corners and of the
 -- points inserted are any.
-use Rattle.std.specs.Prelude.{ℕ, zero, suc, ◌≡◌}
+use Rattle.std.specs.Prelude.{ℕ, zero, suc, ◌≡◌, Ok, Result}
 use Rattle.float64.specs.Literals.{one_literal}
 use Rattle.control_point.specs.Small.{millionth}
 use Rattle.control_point.specs.declared.t_mesh_direction.TmeshDirection.TheVariants.{Right}
@@ -10,17 +10,17 @@ use Rattle.t_mesh.specs.Tmesh.{store_of, with_store}
 use Rattle.t_mesh.specs.declared.t_mesh.Position.{Position}
 use Rattle.t_mesh.specs.declared.t_mesh.Tmesh.{Tmesh}
 use Rattle.cells.specs.Cells.{cell_points}
-use Rattle.cells.specs.declared.CellAnswer.{CellAnswer}
-use Rattle.cells.specs.declared.CellAnswer.TheVariants.{Is}
 use Rattle.calls.specs.ExampleValues.{half}
 use Rattle.calls.specs.Readings.{plate, inserted, after_first}
+use Rattle.control_point.specs.declared.refusal.Refusal.{Refusal}
+use Rattle.grid_index.specs.declared.Cell.{Cell}
 
 -- a question's answer, and the answer of two words and a count
-abbrev pub answer_for : Tmesh → ℕ → CellAnswer
+abbrev pub answer_for : Tmesh → ℕ → Result Cell Refusal
 answer_for map cell = (cell_points millionth map cell).answer
 
-abbrev pub words_are : ℕ → ℕ → ℕ → CellAnswer
-words_are first second count = Is (record { first = first; second = second; count = count })
+abbrev pub words_are : ℕ → ℕ → ℕ → Result Cell Refusal
+words_are first second count = Ok (record { first = first; second = second; count = count })
 
 -- a store with so many points more, each made alone
 unfoldable pub loosened : ℕ → Store → Store

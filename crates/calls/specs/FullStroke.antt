@@ -6,17 +6,16 @@
 -- Nothing is asked of the insertions that are refused, torn or withdrawn, of the questions, of the other axes, of what the evaluations and the set-points
 -- are given, or of the list's length; and nothing of the pulls: it holds with any pulls, set anywhere in the list, accepted or refused.
 -- `le` and `lt` are f64's comparisons, false where either side is a NaN; `T b` says that the test b is true.
-use Rattle.std.specs.Prelude.{ℕ, ◌≡◌, Bool, false, List, [], ◌∷◌, T, Float}
+use Rattle.std.specs.Prelude.{ℕ, ◌≡◌, Bool, false, List, [], ◌∷◌, T, Float, Ok}
 use Rattle.std.specs.Float.{inf}
 use Rattle.std.specs.Float.Ieee.{lt, le}
 use Rattle.float64.specs.Sign.{0f, 1f}
 use Rattle.control_point.specs.declared.t_mesh_direction.TmeshDirection.{TmeshDirection}
-use Rattle.insertion.specs.declared.insertion.InsertAnswer.TheVariants.{Done}
+use Rattle.insertion.specs.declared.insertion.Insertion.TheVariants.{Done}
 use Rattle.t_mesh.specs.Tmesh.{Axis, coordinate, new_tmesh}
 use Rattle.t_mesh.specs.declared.t_mesh.Position.{Position}
 use Rattle.surface.specs.Evaluation.{on_axis}
 use Rattle.surface.specs.declared.evaluation.Evaluation.{Evaluation}
-use Rattle.surface.specs.declared.evaluation.EvaluationAnswer.TheVariants.{Is}
 use Rattle.calls.specs.Calls.{Call, insertion, set_point_call, inserted, evaluated, Event, run_of}
 
 -- from 0 to 1, both ends included
@@ -37,14 +36,14 @@ abbrev pub DoneInUnit : Axis → Event → Type 0
 DoneInUnit axis event =
     (withdraws : Bool) (con : ℕ) (d : TmeshDirection) (ratio : Float) (position : Position) (opened links : ℕ)
     → event.call ≡ insertion withdraws con d ratio position
-    → event.answer ≡ inserted (Done opened links)
+    → event.answer ≡ inserted (Ok (Done opened links))
     → InUnit (coordinate axis position)
 
 -- if the event is an evaluation, or a set-point, whose answer has a positive and finite total weight, it lies in 0 to 1 on the axis
 abbrev pub EvaluationInUnit : Axis → Event → Type 0
 EvaluationInUnit axis event =
     (value : Evaluation)
-    → event.answer ≡ evaluated (Is value)
+    → event.answer ≡ evaluated (Ok value)
     → T (lt 0f value.weight)
     → T (lt value.weight (inf false))
     → InUnit (on_axis axis value)
@@ -52,7 +51,7 @@ EvaluationInUnit axis event =
 -- if the event is a set-point whose answer is a value, its place and the value on the axis lie in 0 to 1
 abbrev pub SetPointInUnit : Axis → Event → Type 0
 SetPointInUnit axis event =
-    (s t : Float) (value : Evaluation) → event.call ≡ set_point_call s t → event.answer ≡ evaluated (Is value) → InUnitAt s t (on_axis axis value)
+    (s t : Float) (value : Evaluation) → event.call ≡ set_point_call s t → event.answer ≡ evaluated (Ok value) → InUnitAt s t (on_axis axis value)
 
 -- the premises, of a closeness, a border weight, four corners, an axis and a list of calls on the map made from them
 pub record Premises (e w : Float) (at_bottom_left at_bottom_right at_top_right at_top_left : Position) (axis : Axis) (calls : List Call) : Type 0 where

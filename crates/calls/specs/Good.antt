@@ -2,7 +2,7 @@
 -- negative, each coordinate is an f64, and so each basis function of each row of knots is a NaN or not negative. It is asked of every
 -- number, of points not made too, so that no proof asks whether a point is made; what stands past the end of a list, all NaN, meets it.
 -- A NaN is let in, since a weight may be infinite and infinity − infinity is a NaN: where it reaches a sum, that sum is a NaN too.
-use Rattle.std.specs.Prelude.{ℕ, List, T, Float, get_or}
+use Rattle.std.specs.Prelude.{ℕ, List, T, Float, get_or, Err, None, Ok, Option, Result, Some}
 use Rattle.std.specs.Float.{nan, binary64}
 use Rattle.std.specs.Float.Ieee.{fits}
 use Rattle.float64.specs.Sign.{nonneg_or_nan}
@@ -14,19 +14,17 @@ use Rattle.control_point.specs.declared.t_mesh_direction.TmeshDirection.{TmeshDi
 use Rattle.control_point.specs.declared.t_mesh_control_point.Side.{Side}
 use Rattle.control_point.specs.declared.t_mesh_control_point.Side.TheVariants.{Link, Border, Opening}
 use Rattle.control_point.specs.declared.t_mesh_control_point.TmeshControlPoint.{TmeshControlPoint}
-use Rattle.navigation.specs.declared.walk.Walk.{Walk}
-use Rattle.navigation.specs.declared.walk.Walk.TheVariants.{Reached, Refused as NoWalk}
-use Rattle.search.specs.declared.search.Found.{Found}
-use Rattle.search.specs.declared.search.Found.TheVariants.{At, Nothing, Failed}
 use Rattle.store.specs.Store.{store_point}
 use Rattle.store.specs.declared.store.Store.{Store}
 use Rattle.insertion.specs.declared.insertion.NewSide.{NewSide}
 use Rattle.insertion.specs.declared.insertion.NewSide.TheVariants.{Takes, Joins, Opens, Tears, Stays}
 use Rattle.ray.specs.Ray.{Ray, entries, refused}
-use Rattle.ray_entry.specs.declared.entry.Entry.{Entry}
-use Rattle.ray_entry.specs.declared.entry.Entry.TheVariants.{Is, Refused as NoEntry}
 use Rattle.ray.specs.declared.knots.PointKnots.{PointKnots}
 use Rattle.grid_index.specs.Index.{no_knots}
+use Rattle.control_point.specs.declared.refusal.Refusal.{Refusal}
+use Rattle.navigation.specs.declared.walk.Walk.{Walk}
+use Rattle.control_point.specs.declared.t_mesh_control_point.LinkEnd.{LinkEnd}
+use Rattle.ray_entry.specs.declared.entry.Entry.{Entry}
 
 -- a NaN, or not negative
 abbrev pub NotNegative : Float → Type 0
@@ -55,15 +53,15 @@ GoodStore store = (n : ℕ) → GoodPoint (store_point store n)
 
 -- ---- what is read of it
 -- a walk's sum
-abbrev pub GoodWalk : Walk → Type 0
-GoodWalk (Reached n sum moves) = NotNegative sum
-GoodWalk (NoWalk refusal) = Unit {0}
+abbrev pub GoodWalk : Result Walk Refusal → Type 0
+GoodWalk (Ok walk) = NotNegative walk.sum
+GoodWalk (Err refusal) = Unit {0}
 
 -- the interval of an inferred link
-abbrev pub GoodFound : Found → Type 0
-GoodFound (At n interval) = NotNegative interval
-GoodFound Nothing = Unit {0}
-GoodFound (Failed refusal) = Unit {0}
+abbrev pub GoodFound : Result (Option LinkEnd) Refusal → Type 0
+GoodFound (Ok (Some end)) = NotNegative end.interval
+GoodFound (Ok None) = Unit {0}
+GoodFound (Err refusal) = Unit {0}
 
 -- a new side's weight or interval
 abbrev pub GoodNewSide : NewSide → Type 0
@@ -74,9 +72,9 @@ GoodNewSide Tears = Unit {0}
 GoodNewSide Stays = Unit {0}
 
 -- an entry of a ray
-abbrev pub GoodEntry : Entry → Type 0
-GoodEntry (Is value front) = NotNegative value
-GoodEntry (NoEntry refusal) = Unit {0}
+abbrev pub GoodEntry : Result Entry Refusal → Type 0
+GoodEntry (Ok entry) = NotNegative entry.value
+GoodEntry (Err refusal) = Unit {0}
 
 -- every entry of a ray, and a ray that is not refused
 abbrev pub GoodEntries : List Float → Type 0

@@ -1,10 +1,10 @@
--- The theorem of FullStroke is not empty. On a map with border 1.0, at the closeness of document 01: a list of calls that meets its
+-- The theorem of FullStroke is not empty. On a map with border 1.0, at a closeness of a millionth: a list of calls that meets its
 -- premises on the first axis and whose evaluation and set-point are exactly 1.0 there; and one that meets them on every axis, in which a torn point
 -- at 7.0 stands in the mesh, linked and not listed, and whose evaluation has a positive and finite weight and lies in 0 to 1.
 -- Torn insertions are withdrawn where the call says so: the same insertion is then answered the same and leaves the map as it was, whether it keeps knots or not.
 -- A corner's pull of 3.0 draws an evaluation towards the corner; settings of pulls are refused 11 and 17, and then change nothing; −0.0 is set, and a torn point's
 -- pull.
-use Rattle.std.specs.Prelude.{ℕ, ◌≡◌, true, false, List, [], ◌∷◌, T, Float}
+use Rattle.std.specs.Prelude.{ℕ, ◌≡◌, true, false, List, [], ◌∷◌, T, Float, Ok}
 use Rattle.std.specs.Float.{nan, inf, binary64}
 use Rattle.std.specs.Float.Ieee.{of_bits, lt}
 use Rattle.float64.specs.Literals.{zero_literal, one_literal}
@@ -12,18 +12,16 @@ use Rattle.float64.specs.Sign.{0f}
 use Rattle.control_point.specs.Point.{minus_one}
 use Rattle.control_point.specs.Small.{millionth}
 use Rattle.control_point.specs.Told.{outcome_number}
-use Rattle.control_point.specs.declared.refusal.Outcome.TheVariants.{Done as Set}
 use Rattle.control_point.specs.declared.t_mesh_control_point.Side.TheVariants.{Link}
 use Rattle.control_point.specs.declared.t_mesh_direction.TmeshDirection.TheVariants.{Right}
 use Rattle.store.specs.Store.{store_sides}
-use Rattle.insertion.specs.declared.insertion.InsertAnswer.TheVariants.{Done, Torn}
+use Rattle.insertion.specs.declared.insertion.Insertion.TheVariants.{Done, Torn}
 use Rattle.t_mesh.specs.Tmesh.{Axis, X, position_of, pull_of, store_of, is_listed, new_tmesh}
 use Rattle.t_mesh.specs.declared.t_mesh.Position.{Position}
 use Rattle.t_mesh.specs.declared.t_mesh.Tmesh.{Tmesh}
 use Rattle.pull.specs.Pull.{set_pull}
 use Rattle.surface.specs.Evaluation.{on_axis}
 use Rattle.surface.specs.declared.evaluation.Evaluation.{Evaluation}
-use Rattle.surface.specs.declared.evaluation.EvaluationAnswer.TheVariants.{Is}
 use Rattle.calls.specs.Calls.{Call, insertion, evaluation, set_point_call, pulling, inserted, evaluated, pulled, answer_to, map_after, run_of}
 use Rattle.calls.specs.FullStroke.{InUnit, Premises}
 use Rattle.calls.specs.ExampleValues.{minus_zero, half, three, seven, position_at}
@@ -58,8 +56,8 @@ full =
 abbrev pub FullRun : Type 0
 FullRun =
     run_of millionth (new_tmesh one_literal lower lower upper upper) full_calls
-    ≡ record { call = insertion false 0 Right half lower; answer = inserted (Done 1 0) }
-    ∷ (record { call = evaluation half half; answer = evaluated (Is full) } ∷ (record { call = set_point_call half half; answer = evaluated (Is full) } ∷ []))
+    ≡ record { call = insertion false 0 Right half lower; answer = inserted (Ok (Done 1 0)) }
+    ∷ (record { call = evaluation half half; answer = evaluated (Ok full) } ∷ (record { call = set_point_call half half; answer = evaluated (Ok full) } ∷ []))
 
 -- the premises hold, and the evaluation and the set-point are exactly 1.0 with a positive and finite weight
 pub record FullStrokeTouched : Type 0 where
@@ -67,7 +65,7 @@ pub record FullStrokeTouched : Type 0 where
   pub run : FullRun
   pub weighty : Weighty full
 
--- ---- a torn point at 7.0 on every axis, in the map of document 01's example file
+-- ---- a torn point at 7.0 on every axis, in the map of the example file
 -- its four corners, and the map
 abbrev pub at_bottom_left : Position
 at_bottom_left = position_at zero_literal zero_literal zero_literal
@@ -109,8 +107,8 @@ inside =
 abbrev pub TornRun : Type 0
 TornRun =
     run_of millionth plate torn_calls
-    ≡ record { call = tearing; answer = inserted (Torn 1 0) }
-    ∷ (record { call = evaluation half half; answer = evaluated (Is inside) } ∷ [])
+    ≡ record { call = tearing; answer = inserted (Ok (Torn 1 0)) }
+    ∷ (record { call = evaluation half half; answer = evaluated (Ok inside) } ∷ [])
 
 -- the torn point stands in the mesh with its position, linked from point 0 at 0.0, and is not listed
 abbrev pub TornStands : Type 0
@@ -133,7 +131,7 @@ withdrawing = insertion true 0 Right zero_literal outside
 
 -- on a map it is answered torn, with the same side opened, and the map is left as it was
 abbrev pub LeavesMap : Tmesh → Type 0
-LeavesMap map = (answer_to millionth map withdrawing ≡ inserted (Torn 1 0)) × (map_after millionth map withdrawing ≡ map)
+LeavesMap map = (answer_to millionth map withdrawing ≡ inserted (Ok (Torn 1 0))) × (map_after millionth map withdrawing ≡ map)
 
 -- the map after an evaluation, which keeps the knots that it built
 abbrev pub evaluated_plate : Tmesh
@@ -167,8 +165,8 @@ drawn =
 abbrev pub PulledRun : Type 0
 PulledRun =
     run_of millionth plate pulled_calls
-    ≡ record { call = evaluation half half; answer = evaluated (Is between) }
-    ∷ (record { call = pulling 2 three; answer = pulled Set } ∷ (record { call = evaluation half half; answer = evaluated (Is drawn) } ∷ []))
+    ≡ record { call = evaluation half half; answer = evaluated (Ok between) }
+    ∷ (record { call = pulling 2 three; answer = pulled (Ok tt) } ∷ (record { call = evaluation half half; answer = evaluated (Ok drawn) } ∷ []))
 
 -- the premises hold, and the evaluation lies where the pull draws it, with a positive and finite weight
 pub record PullMovesGate : Type 0 where

@@ -1,6 +1,6 @@
--- Worked examples of the set-point, on the map of document 01's sample: border 1.0, corners (0, 0, 0), (1, 0, 0), (1, 1, 1), (0, 1, 1), at a closeness of a millionth. Document 01's reading at (5.0, 0.5) is among them:
+-- Worked examples of the set-point, on the sample map: border 1.0, corners (0, 0, 0), (1, 0, 0), (1, 1, 1), (0, 1, 1), at a closeness of a millionth. Document 01's reading at (5.0, 0.5) is among them:
 -- the evaluation has the weight 0.0, and the set-point is refused 20. Refused 20, the map is as it was, with no knots kept, and with those kept that an evaluation built.
-use Rattle.std.specs.Prelude.{ℕ, ◌≡◌, true, false, Float}
+use Rattle.std.specs.Prelude.{ℕ, ◌≡◌, true, false, Float, Err, Ok}
 use Rattle.std.specs.Float.{nan, inf, binary64}
 use Rattle.std.specs.Float.Ieee.{of_bits}
 use Rattle.float64.specs.Literals.{zero_literal, one_literal}
@@ -9,7 +9,6 @@ use Rattle.control_point.specs.declared.refusal.Refusal.TheVariants.{OffMap}
 use Rattle.t_mesh.specs.declared.t_mesh.Tmesh.{Tmesh}
 use Rattle.surface.specs.Evaluation.{evaluation_number, subs_of}
 use Rattle.surface.specs.SetPoint.{set_point}
-use Rattle.surface.specs.declared.evaluation.EvaluationAnswer.TheVariants.{Is, Refused}
 use Rattle.calls.specs.Calls.{pulling, map_after}
 use Rattle.calls.specs.ExampleValues.{minus_zero, half}
 use Rattle.calls.specs.NotEmpty.{plate, evaluated_plate}
@@ -39,7 +38,7 @@ weightless_plate = let_go (let_go (let_go (let_go plate 0) 1) 2) 3
 
 -- refused 20, with the map as it was
 abbrev pub OffAt : Tmesh → Float → Float → Type 0
-OffAt map s t = set_point millionth map s t ≡ record { answer = Refused OffMap; map = map }
+OffAt map s t = set_point millionth map s t ≡ record { answer = Err OffMap; map = map }
 
 -- answered a number, with the knots then kept
 abbrev pub AnsweredAt : ℕ → Tmesh → Float → Float → Type 0
@@ -47,7 +46,7 @@ AnsweredAt number map s t = (evaluation_number (set_point millionth map s t).ans
 
 pub record SetPointReadings : Type 0 where
   -- (5.0, 0.5)
-  pub beyond : (subs_of millionth plate five half).answer ≡ Is (record { x = nan; y = nan; z = nan; weight = zero_literal })
+  pub beyond : (subs_of millionth plate five half).answer ≡ Ok (record { x = nan; y = nan; z = nan; weight = zero_literal })
   pub beyond_off : OffAt plate five half
   -- no knots are kept before, and with knots kept it is the same
   pub none_kept : plate.kept ≡ false

@@ -1,2 +1,2 @@
-// Lists of calls on a map: definitions, statements and proofs in specs/, and no function.
+// Lists of calls on a map: definitions and statements in specs/, proofs in proofs/, and no function.
 #![tactic(auto)]

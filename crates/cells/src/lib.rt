@@ -6,31 +6,25 @@ ghost use Rattle.control_point.specs.Small.{millionth};
 ghost use Rattle.cells.specs.Cells.{cell_told, cell_answer_by, cell_points};
 ghost use Rattle.cells.specs.Table.{cell_points_table};
 
-use control_point::refusal::{Outcome, Refusal};
+use control_point::refusal::Refusal;
 use grid_index::{Cell, cell_of};
 use kept_knots::with_knots;
 use t_mesh::t_mesh::Tmesh;
 
-#[derive(Clone, Copy)]
-pub enum CellAnswer {
-    Is(Cell),
-    Refused(Refusal),
-}
-
 // What the call answers, and the map after it.
 #[derive(Clone, Copy)]
 pub struct Asked {
-    pub answer: CellAnswer,
+    pub answer: Result<Cell, Refusal>,
     pub map: Tmesh,
 }
 
 // The words, where there are knots.
-fn cell_answer_by(outcome: Outcome, words: Cell) -> CellAnswer
+fn cell_answer_by(outcome: Result<(), Refusal>, words: Cell) -> Result<Cell, Refusal>
     ensures { result ≡ cell_answer_by outcome words }
 {
     match outcome {
-        Outcome::Done => CellAnswer::Is(words),
-        Outcome::Refused(refusal) => CellAnswer::Refused(refusal),
+        Ok(()) => Ok(words),
+        Err(refusal) => Err(refusal),
     }
 }
 

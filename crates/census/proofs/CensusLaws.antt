@@ -1,4 +1,4 @@
--- Laws of counting sides point by point.
+-- Laws of counting: the true tests of a list, number by number, and the sides of a store, point by point.
 use Rattle.std.specs.Prelude.{ℕ, ◌+◌, ◌*◌, ◌<◌, ◌≤◌, ◌≡◌, refl, Bool, cond, ◌&&◌}
 use Rattle.std.proofs.Common.{ap, ◌∙◌, arith}
 use Rattle.counting.specs.Counting.{count_below}
@@ -13,6 +13,11 @@ use Rattle.store.specs.declared.store.Store.{Store}
 use Rattle.census.specs.Census.{has_side, links_ahead, borders_around}
 use Rattle.census.specs.declared.census.Counts.{Counts}
 
+-- ---- the points listed
+-- what a loop over a list of tests says of its sum
+pub ruleset listed_below = (count_none, count_next, count_few)
+
+-- ---- a point more
 -- 1 for a side of a point that passes a test
 abbrev one_side : (Side → Bool) → Store → ℕ → TmeshDirection → ℕ
 one_side test store n d = cond (test (side_of (store_point store n) d)) 1 0
@@ -29,15 +34,14 @@ side_next test store d n h =
 abbrev pub links_below : Store → ℕ → ℕ
 links_below store n = count_below n (has_side is_link store Up) + count_below n (has_side is_link store Right)
 
-pub links_none : (store : Store) → 0 ≡ links_below store 0
+pub links_none : (store : Store) → links_below store 0 ≡ 0
 links_none store = omega (arith, count_none (has_side is_link store Up), count_none (has_side is_link store Right))
 
 pub links_few : (store : Store) (n : ℕ) → links_below store n ≤ 2 * n
 links_few store n = omega (arith, count_few n (has_side is_link store Up), count_few n (has_side is_link store Right))
 
-pub links_next : (store : Store) (n : ℕ) → n < 128 → (sum more : ℕ) → sum ≡ links_below store n
-    → more ≡ cond (is_made store.made n) (links_ahead (store_point store n)) 0 → sum + more ≡ links_below store (n + 1)
-links_next store n h sum more s m =
+pub links_next : (store : Store) (n : ℕ) → n < 128 → links_below store (n + 1) ≡ links_below store n + cond (is_made store.made n) (links_ahead (store_point store n)) 0
+links_next store n h =
     omega (
       arith,
       side_next is_link store Up n h,
@@ -51,7 +55,7 @@ borders_below store n =
     count_below n (has_side is_border store Up)
     + (count_below n (has_side is_border store Right) + (count_below n (has_side is_border store Down) + count_below n (has_side is_border store Left)))
 
-pub borders_none : (store : Store) → 0 ≡ borders_below store 0
+pub borders_none : (store : Store) → borders_below store 0 ≡ 0
 borders_none store =
     omega (
       arith,
@@ -71,9 +75,8 @@ borders_few store n =
       count_few n (has_side is_border store Left),
     )
 
-pub borders_next : (store : Store) (n : ℕ) → n < 128 → (sum more : ℕ) → sum ≡ borders_below store n
-    → more ≡ cond (is_made store.made n) (borders_around (store_point store n)) 0 → sum + more ≡ borders_below store (n + 1)
-borders_next store n h sum more s m =
+pub borders_next : (store : Store) (n : ℕ) → n < 128 → borders_below store (n + 1) ≡ borders_below store n + cond (is_made store.made n) (borders_around (store_point store n)) 0
+borders_next store n h =
     omega (
       arith,
       side_next is_border store Up n h,
@@ -84,6 +87,9 @@ borders_next store n h sum more s m =
       plus_where (is_made store.made n) (one_side is_border store n Right) (one_side is_border store n Down + one_side is_border store n Left),
       plus_where (is_made store.made n) (one_side is_border store n Down) (one_side is_border store n Left),
     )
+
+-- what a loop over the points says of its sums
+pub ruleset sums_below = (links_none, links_few, links_next, borders_none, borders_few, borders_next)
 
 -- ---- counts that are equal number by number
 abbrev counts_with : ℕ → ℕ → ℕ → ℕ → Counts

@@ -7,8 +7,6 @@ use Rattle.control_point.specs.Connect.{connectable}
 use Rattle.control_point.specs.Direction.{flip_of}
 use Rattle.control_point.specs.Point.{is_made}
 use Rattle.control_point.proofs.PointLaws.{is_made_room}
-use Rattle.control_point.specs.declared.refusal.Outcome.{Outcome}
-use Rattle.control_point.specs.declared.refusal.Outcome.TheVariants.{Done, Refused}
 use Rattle.control_point.specs.declared.refusal.Refusal.TheVariants.{NoPoint}
 use Rattle.control_point.specs.declared.t_mesh_control_point.TmeshControlPoint.{TmeshControlPoint}
 use Rattle.control_point.specs.declared.t_mesh_direction.TmeshDirection.{TmeshDirection}
@@ -16,6 +14,8 @@ use Rattle.store.specs.Store.{store_point, linked, refused, settled, connect_poi
 use Rattle.store.proofs.StoreLaws.{side_read}
 use Rattle.store.specs.declared.store.Store.{Store}
 use Rattle.connection.specs.Connect.{may_connect}
+use Rattle.std.specs.Prelude.{Err, Ok, Result, ⊤}
+use Rattle.control_point.specs.declared.refusal.Refusal.{Refusal}
 
 both_true : (a b : Bool) → (a && b) ≡ true → (a ≡ true) × (b ≡ true)
 both_true true b h = (refl, h)
@@ -44,11 +44,11 @@ module _ (store : Store) (first other : ℕ) where
 
     -- what the two points answer decides
     pub answered : BothMade → (near far : TmeshControlPoint) → near ≡ store_point store first → far ≡ store_point store other
-        → (outcome : Outcome) → outcome ≡ may_connect first other near far d
+        → (outcome : Result ⊤ Refusal) → outcome ≡ may_connect first other near far d
         → settled outcome (linked store first other d interval) store ≡ connect_points store first other d interval
     answered h near far n f outcome o = rw (o, n, f) (sym (connect_settled h))
 
 -- an answer other than done leaves the store
-pub not_done : (outcome : Outcome) (new old : Store) → (outcome ≡ Done → ⊥) → record { outcome = outcome; store = old } ≡ settled outcome new old
-not_done Done new old h = absurd (h refl)
-not_done (Refused r) new old h = refl
+pub not_done : (outcome : Result ⊤ Refusal) (new old : Store) → (outcome ≡ Ok tt → ⊥) → record { outcome = outcome; store = old } ≡ settled outcome new old
+not_done (Ok tt) new old h = absurd (h refl)
+not_done (Err r) new old h = refl

@@ -1,15 +1,14 @@
 // Connecting two points.
-ghost use Rattle.std.specs.Prelude.{◌≡◌, ◌&&◌};
+ghost use Rattle.std.specs.Prelude.{◌≡◌, ◌&&◌, Ok};
 ghost use Rattle.control_point.specs.Direction.{flip_of};
 ghost use Rattle.control_point.specs.Point.{is_made, is_opening, side_of};
 ghost use Rattle.connection.specs.Connect.{may_connect};
 ghost use Rattle.control_point.specs.Told.{outcome_told};
-ghost use Rattle.control_point.specs.declared.refusal.Outcome.TheVariants.{Done};
 ghost use Rattle.control_point.specs.declared.t_mesh_control_point.Side.TheVariants.{Link};
 ghost use Rattle.store.specs.Store.{connect_points, store_sides};
 ghost use Rattle.store.specs.Tables.{connect_table};
 
-use control_point::refusal::{Outcome, Refusal};
+use control_point::refusal::Refusal;
 use control_point::t_mesh_control_point::{
     Side, TmeshControlPoint, is_made, is_opening, moved_from, side_of, with_side,
 };
@@ -40,16 +39,16 @@ fn may_connect(
     near: TmeshControlPoint,
     far: TmeshControlPoint,
     direction: TmeshDirection,
-) -> Outcome
+) -> Result<(), Refusal>
     ensures { result ≡ may_connect first other near far direction }
 {
     if first == other {
-        return Outcome::Refused(Refusal::Itself);
+        return Err(Refusal::Itself);
     }
     if !facing_openings(near, far, direction) {
-        return Outcome::Refused(Refusal::Taken);
+        return Err(Refusal::Taken);
     }
-    Outcome::Done
+    Ok(())
 }
 
 // Links the first point's side in a direction with the other's facing side, and moves the other there.
@@ -62,26 +61,26 @@ pub fn connect(
 ) -> Changed
     ensures is { result ≡ connect_points store first other direction interval }
     ensures told { outcome_told result.outcome ≡ connect_table store first other direction }
-    ensures links { result.outcome ≡ Done → (store_sides result.store first direction ≡ Link other interval) × (store_sides result.store other (flip_of direction) ≡ Link first interval) }
+    ensures links { result.outcome ≡ Ok tt → (store_sides result.store first direction ≡ Link other interval) × (store_sides result.store other (flip_of direction) ≡ Link first interval) }
 {
     let made = store.made;
     if !both_made(made, first, other) {
         return Changed {
-            outcome: Outcome::Refused(Refusal::NoPoint),
+            outcome: Err(Refusal::NoPoint),
             store,
         };
     }
     let near = point_at(store, first);
     let far = point_at(store, other);
     let outcome = may_connect(first, other, near, far, direction);
-    let Outcome::Done = outcome else {
+    let Ok(()) = outcome else {
         return Changed { outcome, store };
     };
     let ahead = with_side(near, direction, Side::Link(other, interval));
     let back = with_side(far, direction.flip(), Side::Link(first, interval));
     let moved = moved_from(back, near, direction, interval);
     Changed {
-        outcome: Outcome::Done,
+        outcome: Ok(()),
         store: with_point(with_point(store, first, ahead), other, moved),
     }
 }

@@ -8,7 +8,7 @@ use Rattle.std.proofs.Math.Seq.{get_or-set_same, get_or-set_other}
 use Rattle.control_point.specs.Direction.{direction_number, same_direction}
 use Rattle.control_point.proofs.DirectionLaws.{number_small}
 use Rattle.control_point.specs.Point.{side_of, point_at, is_made, blank}
-use Rattle.control_point.specs.Sides.{Sides, sides_of, lent_sides, side_from, place, Full, kind_of, linked_of, interval_of, sides_with, sides_with_point}
+use Rattle.control_point.specs.Sides.{Sides, sides_of, sides_in, side_from, place, FullIn, kind_of, linked_of, interval_of, sides_with, sides_with_point}
 use Rattle.control_point.specs.declared.t_mesh_direction.TmeshDirection.{TmeshDirection}
 use Rattle.control_point.specs.declared.t_mesh_direction.TmeshDirection.TheVariants.{Up, Right, Down, Left}
 use Rattle.control_point.specs.declared.t_mesh_control_point.Side.{Side}
@@ -17,16 +17,16 @@ use Rattle.control_point.specs.declared.t_mesh_control_point.TmeshControlPoint.{
 
 -- ---- reading: the side is the one of the kind that stands at the place
 module _ (kinds numbers : List ℕ) (intervals : List Float) (n : ℕ) (d : TmeshDirection) (i : ℕ) (e : i ≡ place n d) (h : n < 128) where
-  pub reads_link : get_or kinds i 0 ≡ 0 → Link (get_or numbers i 0) (get_or intervals i nan) ≡ lent_sides kinds numbers intervals n d
-  unfolding lent_sides
+  pub reads_link : get_or kinds i 0 ≡ 0 → Link (get_or numbers i 0) (get_or intervals i nan) ≡ sides_in kinds numbers intervals n d
+  unfolding sides_in
   reads_link k = rw (sym e) (simp (lt-ltb n 128 h, k))
 
-  pub reads_border : (get_or kinds i 0 ≡ 0 → ⊥) → get_or kinds i 0 ≡ 1 → Border (get_or intervals i nan) ≡ lent_sides kinds numbers intervals n d
-  unfolding lent_sides
+  pub reads_border : (get_or kinds i 0 ≡ 0 → ⊥) → get_or kinds i 0 ≡ 1 → Border (get_or intervals i nan) ≡ sides_in kinds numbers intervals n d
+  unfolding sides_in
   reads_border z k = rw (sym e) (simp (lt-ltb n 128 h, k))
 
-  pub reads_opening : (get_or kinds i 0 ≡ 0 → ⊥) → (get_or kinds i 0 ≡ 1 → ⊥) → Opening ≡ lent_sides kinds numbers intervals n d
-  unfolding lent_sides
+  pub reads_opening : (get_or kinds i 0 ≡ 0 → ⊥) → (get_or kinds i 0 ≡ 1 → ⊥) → Opening ≡ sides_in kinds numbers intervals n d
+  unfolding sides_in
   reads_opening z k = rw (sym e) (simp (lt-ltb n 128 h, ne_eqb _ 0 z, ne_eqb _ 1 k))
 
 -- a side is read back as it was
@@ -41,31 +41,31 @@ place_room n d h = omega (arith, number_small d)
 -- ---- a store at one place
 module _ (kinds numbers : List ℕ) (intervals : List Float) (n : ℕ) (d : TmeshDirection) (side : Side) where
   abbrev stored : Sides
-  stored = lent_sides (set kinds (place n d) (kind_of side)) (set numbers (place n d) (linked_of side)) (set intervals (place n d) (interval_of side))
+  stored = sides_in (set kinds (place n d) (kind_of side)) (set numbers (place n d) (linked_of side)) (set intervals (place n d) (interval_of side))
 
-  module _ (h : n < 128) (full : Full kinds numbers intervals) where
+  module _ (h : n < 128) (full : FullIn kinds numbers intervals) where
     same : (m : ℕ) (e : TmeshDirection) → m ≡ n → place m e ≡ place n d → stored m e ≡ side
-    unfolding lent_sides
+    unfolding sides_in
     same m e p q =
         simp (lt-ltb m 128 (omega arith), q)
         (rw (get_or-set_same kinds (place n d) (kind_of side) 0 (omega (arith, place_room n d h)), get_or-set_same numbers (place n d) (linked_of side) 0 (omega (arith, place_room n d h)), get_or-set_same intervals (place n d) (interval_of side) nan (omega (arith, place_room n d h)))
         (side_back side))
 
-    other : (m : ℕ) (e : TmeshDirection) → (place m e ≡ place n d → ⊥) → stored m e ≡ lent_sides kinds numbers intervals m e
-    unfolding lent_sides
+    other : (m : ℕ) (e : TmeshDirection) → (place m e ≡ place n d → ⊥) → stored m e ≡ sides_in kinds numbers intervals m e
+    unfolding sides_in
     other m e x =
         rw (get_or-set_other kinds (place n d) (place m e) (kind_of side) 0 x, get_or-set_other numbers (place n d) (place m e) (linked_of side) 0 x, get_or-set_other intervals (place n d) (place m e) (interval_of side) nan x)
 
-    by_test : (m : ℕ) (e : TmeshDirection) (a b : Bool) → eqb m n ≡ a → eqb (direction_number e) (direction_number d) ≡ b → stored m e ≡ cond (a && b) side (lent_sides kinds numbers intervals m e)
+    by_test : (m : ℕ) (e : TmeshDirection) (a b : Bool) → eqb m n ≡ a → eqb (direction_number e) (direction_number d) ≡ b → stored m e ≡ cond (a && b) side (sides_in kinds numbers intervals m e)
     by_test m e true true p q = same m e (eqb-true m n p) (omega (arith, eqb-true m n p, eqb-true (direction_number e) (direction_number d) q))
     by_test m e true false p q = other m e (λ (x : place m e ≡ place n d). eqb-false (direction_number e) (direction_number d) q (omega (arith, x, eqb-true m n p)))
     by_test m e false true p q = other m e (λ (x : place m e ≡ place n d). eqb-false m n p (omega (arith, x, eqb-true (direction_number e) (direction_number d) q)))
     by_test m e false false p q = other m e (λ (x : place m e ≡ place n d). eqb-false m n p (omega (arith, x, number_small e, number_small d)))
 
-    pub put_full : Full (set kinds (place n d) (kind_of side)) (set numbers (place n d) (linked_of side)) (set intervals (place n d) (interval_of side))
+    pub put_full : FullIn (set kinds (place n d) (kind_of side)) (set numbers (place n d) (linked_of side)) (set intervals (place n d) (interval_of side))
     put_full = (length-set kinds _ _ ∙ full.0, (length-set numbers _ _ ∙ full.1.0, length-set intervals _ _ ∙ full.1.1))
 
-    pub put_law : stored ≡ sides_with (lent_sides kinds numbers intervals) n d side
+    pub put_law : stored ≡ sides_with (sides_in kinds numbers intervals) n d side
     put_law = λ i m e. by_test m e (eqb m n) (eqb (direction_number e) (direction_number d)) refl refl i
 
 -- ---- four stores are a point's
@@ -97,13 +97,13 @@ right_more n before after points e r m d h = ap (λ (x : Sides). x m d) e ∙ by
     by_test true x = rw (eqb-true m n x)
     by_test false x = r m d (omega (arith, h, eqb-false m n x))
 
-module _ (kinds numbers : List ℕ) (intervals : List Float) (points : List TmeshControlPoint) (r : RightTo 128 (lent_sides kinds numbers intervals) points) where
-  all_by : (m : ℕ) (d : TmeshDirection) (b : Bool) → ltb m 128 ≡ b → lent_sides kinds numbers intervals m d ≡ sides_of points m d
-  unfolding sides_of lent_sides
+module _ (kinds numbers : List ℕ) (intervals : List Float) (points : List TmeshControlPoint) (r : RightTo 128 (sides_in kinds numbers intervals) points) where
+  all_by : (m : ℕ) (d : TmeshDirection) (b : Bool) → ltb m 128 ≡ b → sides_in kinds numbers intervals m d ≡ sides_of points m d
+  unfolding sides_of sides_in
   all_by m d true h = r m d (ltb-true m 128 h) ∙ simp h
   all_by m d false h = simp h
 
-  pub right_all : lent_sides kinds numbers intervals ≡ sides_of points
+  pub right_all : sides_in kinds numbers intervals ≡ sides_of points
   right_all = λ i m d. all_by m d (ltb m 128) refl i
 
 -- ---- a point stored in the list, and its sides stored in the arrays

@@ -11,6 +11,7 @@ use Rattle.control_point.specs.declared.t_mesh_direction.TmeshDirection.{TmeshDi
 use Rattle.control_point.specs.declared.t_mesh_direction.TmeshDirection.TheVariants.{Up, Right, Down, Left}
 use Rattle.control_point.specs.declared.t_mesh_control_point.Side.{Side}
 use Rattle.control_point.specs.declared.t_mesh_control_point.Side.TheVariants.{Link, Border, Opening}
+use Rattle.control_point.specs.declared.t_mesh_control_point.LinkEnd.{LinkEnd}
 use Rattle.control_point.specs.declared.t_mesh_control_point.TmeshControlPoint.{TmeshControlPoint}
 
 -- what a side is
@@ -34,6 +35,10 @@ abbrev pub side_refusal : Side → Refusal
 side_refusal (Link n interval) = Taken
 side_refusal (Border weight) = BorderSide
 side_refusal Opening = OpenSide
+
+-- the other end of a link, by its point and the link's interval
+abbrev pub link_end : ℕ → Float → LinkEnd
+link_end n interval = record { point = n; interval = interval }
 
 -- a point's side in a direction
 abbrev pub side_of : TmeshControlPoint → TmeshDirection → Side

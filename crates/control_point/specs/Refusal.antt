@@ -1,4 +1,4 @@
--- The answer numbers of documents 01 (1 to 16) and 02 (17 to 27), for their words. 0 is no refusal.
+-- The answer numbers, for their words. 0 is no refusal.
 use Rattle.std.specs.Prelude.{ℕ}
 use Rattle.control_point.specs.declared.refusal.Refusal.{Refusal}
 use Rattle.control_point.specs.declared.refusal.Refusal.TheVariants.{Ratio, Foreign, OpenSide, BorderSide, Taken, Interval, Itself, Torn, Ring, Full, NoPoint, Length, Version, Heading, NoWeight, Short, Pull, Clash, Shut, OffMap, Seed, TooMany, UnlikeHeads, TooLong, Closeness, Ticks, Doubled}

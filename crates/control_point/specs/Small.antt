@@ -1,4 +1,4 @@
--- Closeness. Every definition that tests it takes the closeness e as an argument; `millionth` is document 01's.
+-- Closeness. Every definition that tests it takes the closeness e as an argument; `millionth` is that of a map that states none.
 use Rattle.std.specs.Prelude.{Bool, ◌&&◌, Float}
 use Rattle.std.specs.Float.{binary64}
 use Rattle.std.specs.Float.Ieee.{div, neg, le}

@@ -1,9 +1,9 @@
-// Why a call is refused: the words of documents 01 and 02, in the order of their numbers.
+// Why a call is refused, in the order of the answer numbers.
 ghost use Rattle.std.specs.Prelude.{◌≡◌};
 ghost use Rattle.control_point.specs.Refusal.{refusal_number};
-ghost use Rattle.control_point.specs.Told.{outcome_number};
+ghost use Rattle.control_point.specs.Told.{number_of};
 
-#[derive(Clone, Copy)]
+#[derive(Clone, Copy, Debug, PartialEq, Eq)]
 pub enum Refusal {
     Ratio,
     Foreign,
@@ -71,21 +71,12 @@ impl Refusal {
     }
 }
 
-// What came of a call that answers nothing else.
-#[derive(Clone, Copy)]
-pub enum Outcome {
-    Done,
-    Refused(Refusal),
-}
-
-impl Outcome {
-    // Its answer number, 0 where the call is done.
-    pub fn number(self) -> u8
-        ensures { result ≡ outcome_number self }
-    {
-        match self {
-            Outcome::Done => 0,
-            Outcome::Refused(refusal) => refusal.number(),
-        }
+// The answer number of a call, 0 where it is not refused.
+pub fn number_of<T>(answer: &Result<T, Refusal>) -> u8
+    ensures { result ≡ number_of answer.now }
+{
+    match answer {
+        Ok(_) => 0,
+        Err(refusal) => refusal.number(),
     }
 }

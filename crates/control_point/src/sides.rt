@@ -20,54 +20,6 @@ fn place_of(n: u8, direction: TmeshDirection) -> usize
     wide(n) * 4 + wide(direction.number())
 }
 
-// A side read back. A number of 128 or more has openings.
-pub fn side_at<'a>(
-    kinds: &'a [u8; 512],
-    numbers: &'a [u8; 512],
-    intervals: &'a [f64; 512],
-    n: u8,
-    direction: TmeshDirection,
-) -> Side
-    ensures { result ≡ lent_sides kinds.now numbers.now intervals.now n direction }
-{
-    if 128 <= n {
-        return Side::Opening;
-    }
-    let i = place_of(n, direction);
-    let kind = kinds[i];
-    if kind == 0 {
-        return Side::Link(numbers[i], intervals[i]);
-    }
-    if kind == 1 {
-        return Side::Border(intervals[i]);
-    }
-    Side::Opening
-}
-
-// What a side is, of a point that may not have been made.
-#[derive(Clone, Copy)]
-pub enum SideAnswer {
-    Is(Side),
-    Refused(Refusal),
-}
-
-pub fn made_side_at<'a>(
-    kinds: &'a [u8; 512],
-    numbers: &'a [u8; 512],
-    intervals: &'a [f64; 512],
-    made: u8,
-    n: u8,
-    direction: TmeshDirection,
-) -> SideAnswer
-    ensures { result ≡ side_at (lent_sides kinds.now numbers.now intervals.now) made n direction }
-{
-    if is_made(made, n) {
-        SideAnswer::Is(side_at(kinds, numbers, intervals, n, direction))
-    } else {
-        SideAnswer::Refused(Refusal::NoPoint)
-    }
-}
-
 fn kind_of(side: Side) -> u8
     ensures { result ≡ kind_of side }
 {
@@ -98,63 +50,98 @@ fn interval_of(side: Side) -> f64
     }
 }
 
-// One side, at its place.
-pub fn put_side(
-    kinds: &mut [u8; 512],
-    numbers: &mut [u8; 512],
-    intervals: &mut [f64; 512],
-    n: u8,
-    direction: TmeshDirection,
-    side: Side,
-)
-    requires { (n < 128) × Full kinds.old numbers.old intervals.old }
-    ensures { let before = lent_sides kinds.old numbers.old intervals.old in
-        let after = lent_sides kinds.new numbers.new intervals.new in
-        Full kinds.new numbers.new intervals.new × (after ≡ sides_with before n direction side) }
-{
-    let i = place_of(n, direction);
-    kinds[i] = kind_of(side);
-    numbers[i] = linked_of(side);
-    intervals[i] = interval_of(side);
+// Four places a point. Fixed memory: the arrays take 5,120 bytes, which a C call has on its stack twice; as an array of `Side` they would take 8,192.
+#[derive(Clone, Copy)]
+pub struct LentSides {
+    pub kinds: [u8; 512],
+    pub numbers: [u8; 512],
+    pub intervals: [f64; 512],
 }
 
-// All four sides of a point.
-pub fn put_point(
-    kinds: &mut [u8; 512],
-    numbers: &mut [u8; 512],
-    intervals: &mut [f64; 512],
-    n: u8,
-    point: TmeshControlPoint,
-)
-    requires { (n < 128) × Full kinds.old numbers.old intervals.old }
-    ensures { let before = lent_sides kinds.old numbers.old intervals.old in
-        let after = lent_sides kinds.new numbers.new intervals.new in
-        Full kinds.new numbers.new intervals.new × (after ≡ sides_with_point before n point) }
-{
-    let up = point.up;
-    let right = point.right;
-    let down = point.down;
-    let left = point.left;
-    put_side(kinds, numbers, intervals, n, TmeshDirection::Up, up);
-    put_side(kinds, numbers, intervals, n, TmeshDirection::Right, right);
-    put_side(kinds, numbers, intervals, n, TmeshDirection::Down, down);
-    put_side(kinds, numbers, intervals, n, TmeshDirection::Left, left);
-}
+impl LentSides {
+    // Every side a link of point 0 to itself at 0.0: what stands in the arrays before they are filled means nothing.
+    pub fn blank() -> LentSides
+        ensures { Full result }
+    {
+        LentSides {
+            kinds: [0; 512],
+            numbers: [0; 512],
+            intervals: [0.0; 512],
+        }
+    }
 
-// The sides of 128 points, into arrays that the caller owns.
-pub fn fill(
-    kinds: &mut [u8; 512],
-    numbers: &mut [u8; 512],
-    intervals: &mut [f64; 512],
-    points: [TmeshControlPoint; 128],
-)
-    requires { Full kinds.old numbers.old intervals.old }
-    ensures { Full kinds.new numbers.new intervals.new × (lent_sides kinds.new numbers.new intervals.new ≡ sides_of points) }
-{
-    let mut n: u8 = 0;
-    while n < 128 {
-        let point = points[n as usize];
-        put_point(kinds, numbers, intervals, n, point);
-        n += 1;
+    // The sides of 128 points.
+    pub fn of_points(points: [TmeshControlPoint; 128]) -> LentSides
+        ensures { lent_sides result ≡ sides_of points }
+    {
+        let mut sides = LentSides::blank();
+        sides.fill(points);
+        sides
+    }
+
+    // A side read back. A number of 128 or more has openings.
+    pub fn side_at(&self, n: u8, direction: TmeshDirection) -> Side
+        ensures { result ≡ lent_sides self.now n direction }
+    {
+        if 128 <= n {
+            return Side::Opening;
+        }
+        let i = place_of(n, direction);
+        let kind = self.kinds[i];
+        if kind == 0 {
+            return Side::Link(self.numbers[i], self.intervals[i]);
+        }
+        if kind == 1 {
+            return Side::Border(self.intervals[i]);
+        }
+        Side::Opening
+    }
+
+    // A side of a point that may not have been made.
+    pub fn made_side_at(&self, made: u8, n: u8, direction: TmeshDirection) -> Result<Side, Refusal>
+        ensures { result ≡ side_at (lent_sides self.now) made n direction }
+    {
+        if is_made(made, n) {
+            Ok(self.side_at(n, direction))
+        } else {
+            Err(Refusal::NoPoint)
+        }
+    }
+
+    // One side, at its place.
+    pub fn put_side(&mut self, n: u8, direction: TmeshDirection, side: Side)
+        requires { (n < 128) × Full self.old }
+        ensures { Full self.new × (lent_sides self.new ≡ sides_with (lent_sides self.old) n direction side) }
+    {
+        let i = place_of(n, direction);
+        self.kinds[i] = kind_of(side);
+        self.numbers[i] = linked_of(side);
+        self.intervals[i] = interval_of(side);
+    }
+
+    // All four sides of a point.
+    pub fn put_point(&mut self, n: u8, point: TmeshControlPoint)
+        requires { (n < 128) × Full self.old }
+        ensures { Full self.new × (lent_sides self.new ≡ sides_with_point (lent_sides self.old) n point) }
+    {
+        let up = point.up;
+        let right = point.right;
+        let down = point.down;
+        let left = point.left;
+        self.put_side(n, TmeshDirection::Up, up);
+        self.put_side(n, TmeshDirection::Right, right);
+        self.put_side(n, TmeshDirection::Down, down);
+        self.put_side(n, TmeshDirection::Left, left);
+    }
+
+    // The sides of 128 points, over what stands there.
+    pub fn fill(&mut self, points: [TmeshControlPoint; 128])
+        requires { Full self.old }
+        ensures { Full self.new × (lent_sides self.new ≡ sides_of points) }
+    {
+        for n in 0..128u8 {
+            let point = points[n as usize];
+            self.put_point(n, point);
+        }
     }
 }

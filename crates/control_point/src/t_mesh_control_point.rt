@@ -13,6 +13,13 @@ pub enum Side {
     Opening,
 }
 
+// The other end of a link: its point, and the link's interval.
+#[derive(Clone, Copy, Debug)]
+pub struct LinkEnd {
+    pub point: u8,
+    pub interval: f64,
+}
+
 // The knot coordinates are s, across, and t, upwards.
 #[derive(Clone, Copy)]
 pub struct TmeshControlPoint {
@@ -27,31 +34,19 @@ pub struct TmeshControlPoint {
 pub fn is_link(side: Side) -> bool
     ensures { result ≡ is_link side }
 {
-    match side {
-        Side::Link(_, _) => true,
-        Side::Border(_) => false,
-        Side::Opening => false,
-    }
+    matches!(side, Side::Link(_, _))
 }
 
 pub fn is_border(side: Side) -> bool
     ensures { result ≡ is_border side }
 {
-    match side {
-        Side::Link(_, _) => false,
-        Side::Border(_) => true,
-        Side::Opening => false,
-    }
+    matches!(side, Side::Border(_))
 }
 
 pub fn is_opening(side: Side) -> bool
     ensures { result ≡ is_opening side }
 {
-    match side {
-        Side::Link(_, _) => false,
-        Side::Border(_) => false,
-        Side::Opening => true,
-    }
+    matches!(side, Side::Opening)
 }
 
 // The refusal that speaks of what a side is.

@@ -1,12 +1,11 @@
 -- What a right length tells, what makes one right or wrong, and that a valid file is not refused.
-use Rattle.std.specs.Prelude.{ℕ, ◌+◌, ◌*◌, ◌-◌, ◌/◌, ◌%◌, ◌≤◌, ◌<◌, ◌≡◌, Bool, true, false, ◌&&◌, List, leb, eqb, length}
+use Rattle.std.specs.Prelude.{ℕ, ◌+◌, ◌*◌, ◌-◌, ◌/◌, ◌%◌, ◌≤◌, ◌<◌, ◌≡◌, Bool, true, false, ◌&&◌, List, leb, eqb, length, Err, Ok}
 use Rattle.std.proofs.Math.Path.{refl}
 use Rattle.std.proofs.Common.{sym, true≢false, div-add-mod', arith}
 use borrow.Author.Tests.{le-leb, lt-leb, eq-eqb, ne_eqb, leb-true, eqb-true}
 use Rattle.big_endian.specs.BigEndian.{number_at}
 use Rattle.control_point.specs.declared.refusal.Refusal.{Refusal}
 use Rattle.counted_file.specs.Counted.{count_bytes, item_count, counted_right}
-use Rattle.counted_file.specs.declared.FileCheck.TheVariants.{Valid, Refused}
 
 -- of four tests that hold, the first and the last two
 held : (a b c d : Bool) → (a && (b && (c && d))) ≡ true → (a ≡ true) × (c ≡ true) × (d ≡ true)
@@ -62,5 +61,5 @@ module _ (head item most : ℕ) (bytes : List ℕ) where
   items_decide long same whole = rw (le-leb head (length bytes) long, eq-eqb count (length bytes) same, eq-eqb (items % item) 0 whole) refl
 
 -- a check that is valid is no refusal
-pub valid_refused : (refusal : Refusal) (n : ℕ) → Refused refusal ≡ Valid n → ⊥
+pub valid_refused : (refusal : Refusal) (n : ℕ) → Err refusal ≡ Ok n → ⊥
 valid_refused refusal n same = let z : ◌≡◌ {A = ℕ} 0 1 = cc in omega arith

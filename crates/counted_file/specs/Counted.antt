@@ -1,9 +1,8 @@
 -- A file that begins with the count, in 4 bytes, of the bytes that follow it: a head, which the count and a version behind it are part of, and whole items of one size.
-use Rattle.std.specs.Prelude.{ℕ, ◌+◌, ◌-◌, ◌/◌, ◌%◌, Bool, ◌&&◌, List, [], ◌∷◌, leb, eqb, length}
+use Rattle.std.specs.Prelude.{ℕ, ◌+◌, ◌-◌, ◌/◌, ◌%◌, Bool, ◌&&◌, List, [], ◌∷◌, leb, eqb, length, Err, Ok, Result}
 use Rattle.big_endian.specs.BigEndian.{number_at}
 use Rattle.control_point.specs.Told.{Told, natural, tells, refusal_told}
-use Rattle.counted_file.specs.declared.FileCheck.{FileCheck}
-use Rattle.counted_file.specs.declared.FileCheck.TheVariants.{Valid, Refused}
+use Rattle.control_point.specs.declared.refusal.Refusal.{Refusal}
 
 -- the bytes of the count
 abbrev pub count_bytes : ℕ
@@ -25,6 +24,6 @@ counted_right head item most bytes =
     && (eqb ((length bytes - head) % item) 0 && leb (item_count head item bytes) most))
 
 -- what a check of a file tells: the count of its items, or the refusal's number
-abbrev pub file_told : FileCheck → Told
-file_told (Valid n) = tells (natural n ∷ [])
-file_told (Refused refusal) = refusal_told refusal
+abbrev pub file_told : Result ℕ Refusal → Told
+file_told (Ok n) = tells (natural n ∷ [])
+file_told (Err refusal) = refusal_told refusal

@@ -5,19 +5,11 @@ ghost use Rattle.std.specs.Prelude.{◌≡◌, ◌<◌};
 ghost use Rattle.counted_file.specs.Counted.{counted_right};
 
 use big_endian::length_at;
-use control_point::refusal::Refusal;
 
 pub const COUNT_BYTES: usize = 4;
 
 // Where the version stands, in one byte.
 pub const VERSION_AT: usize = 4;
-
-#[derive(Clone, Copy)]
-pub enum FileCheck {
-    // The count of items.
-    Valid(usize),
-    Refused(Refusal),
-}
 
 // Whether the count at the start is that of the bytes that follow, and the file is a head, that count included, and up to so many whole items.
 pub fn counted_right(bytes: &[u8], head: usize, item: usize, most: usize) -> bool

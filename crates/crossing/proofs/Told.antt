@@ -10,12 +10,13 @@ use Rattle.control_point.specs.declared.t_mesh_control_point.Side.TheVariants.{L
 use Rattle.control_point.specs.declared.t_mesh_direction.TmeshDirection.{TmeshDirection}
 use Rattle.search.specs.Search.{find_inferred_connection}
 use Rattle.search.proofs.SearchLaws.{MayConnect, found_connects}
-use Rattle.search.specs.declared.search.Found.{Found}
-use Rattle.search.specs.declared.search.Found.TheVariants.{At}
 use Rattle.insertion.specs.Insert.{border_or, sought_side, new_side}
 use Rattle.insertion.proofs.InsertLaws.{connectable_other}
 use Rattle.insertion.specs.declared.insertion.NewSide.{NewSide}
 use Rattle.insertion.specs.declared.insertion.NewSide.TheVariants.{Takes}
+use Rattle.std.specs.Prelude.{Ok, Option, Result, Some}
+use Rattle.control_point.specs.declared.refusal.Refusal.{Refusal}
+use Rattle.control_point.specs.declared.t_mesh_control_point.LinkEnd.{LinkEnd}
 
 -- ---- con's side is a border, or it is none
 module _ (e : Float) (sides : Sides) (made con p : ℕ) (f : TmeshDirection) where
@@ -35,19 +36,14 @@ module _ (e : Float) (sides : Sides) (made con p : ℕ) (f : TmeshDirection) whe
   -- p's side is opened, and it becomes what the search finds
   pub new_found : (side : Side) → side ≡ sides con f → ((weight : Float) → side ≡ Border weight → ⊥)
       → (after : Sides) → after ≡ sides_with sides p f Opening
-      → (found : Found) → found ≡ find_inferred_connection e after made p f
-      → (known : Found) → found ≡ known → sought_side known ≡ new_side e sides made con p f
-  new_found side read told after opened found searched known is =
-      ap sought_side (sym is ∙ searched)
+      → (found : Result (Option LinkEnd) Refusal) → found ≡ find_inferred_connection e after made p f → sought_side found ≡ new_side e sides made con p f
+  new_found side read told after opened found searched =
+      ap sought_side searched
       ∙ ap (λ (x : Sides). sought_side (find_inferred_connection e x made p f)) opened
       ∙ sym (new_sought side (sym read) told)
 
--- a point that is found has room
-pub found_room : (e : Float) (sides : Sides) (made p : ℕ) (f : TmeshDirection) (found : Found) (n : ℕ) (interval : Float) → found ≡ find_inferred_connection e sides made p f → found ≡ At n interval → n < 128
-found_room e sides made p f found n interval h g =
-    is_made_room made n (connectable_other sides made p n f (subst (MayConnect sides made p f) (sym h ∙ g) (found_connects e sides made p f))).0
-
--- and is not the point itself
-pub found_apart : (e : Float) (sides : Sides) (made p : ℕ) (f : TmeshDirection) (found : Found) (n : ℕ) (interval : Float) → found ≡ find_inferred_connection e sides made p f → found ≡ At n interval → n ≡ p → ⊥
-found_apart e sides made p f found n interval h g is =
-    eqb-false p n (connectable_other sides made p n f (subst (MayConnect sides made p f) (sym h ∙ g) (found_connects e sides made p f))).1 (sym is)
+-- a point that is found has room, and is not the point itself
+pub found_other : (e : Float) (sides : Sides) (made p : ℕ) (f : TmeshDirection) (end : LinkEnd) → Ok (Some end) ≡ find_inferred_connection e sides made p f → (end.point < 128) × (end.point ≡ p → ⊥)
+found_other e sides made p f end found =
+    let other = connectable_other sides made p end.point f (subst (MayConnect sides made p f) (sym found) (found_connects e sides made p f)) in
+    (is_made_room made end.point other.0, λ is. eqb-false p end.point other.1 (sym is))

@@ -10,6 +10,7 @@ const PART_COUNTS: u64 = 1025;
 const PARTS: f64 = 1024.0;
 
 // The draw after a state.
+#[tactic(auto, unfolding(crate::specs::Draw::next_draw))]
 pub fn next_draw(state: u64) -> u64
     ensures { result ≡ next_draw state }
 {
@@ -19,6 +20,7 @@ pub fn next_draw(state: u64) -> u64
 }
 
 // The float of a draw.
+#[tactic(auto, unfolding(crate::specs::Draw::in_parts))]
 pub fn drawn_float(draw: u64) -> f64
     ensures { result ≡ drawn_float draw }
 {

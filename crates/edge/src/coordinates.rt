@@ -5,7 +5,7 @@ ghost use Rattle.control_point.specs.Told.{outcome_told};
 ghost use Rattle.store.specs.Store.{set_knot_coordinates, all_borders, coordinated};
 ghost use Rattle.store.specs.Tables.{set_knot_coordinates_table};
 
-use control_point::refusal::{Outcome, Refusal};
+use control_point::refusal::Refusal;
 use control_point::t_mesh_control_point::{Side, TmeshControlPoint, is_border, is_made};
 use store::store::{Changed, Store, point_at, settle};
 
@@ -42,7 +42,7 @@ pub fn set_knot_coordinates(store: Store, n: u8, s: f64, t: f64) -> Changed
     let made = store.made;
     if !is_made(made, n) {
         return Changed {
-            outcome: Outcome::Refused(Refusal::NoPoint),
+            outcome: Err(Refusal::NoPoint),
             store,
         };
     }

@@ -1,12 +1,11 @@
 // A border's weight is set, and a border opened.
-ghost use Rattle.std.specs.Prelude.{◌≡◌};
+ghost use Rattle.std.specs.Prelude.{◌≡◌, Ok};
 ghost use Rattle.control_point.specs.Told.{outcome_told};
-ghost use Rattle.control_point.specs.declared.refusal.Outcome.TheVariants.{Done};
 ghost use Rattle.control_point.specs.declared.t_mesh_control_point.Side.TheVariants.{Border, Opening};
 ghost use Rattle.store.specs.Store.{set_edge_con_weight, remove_edge_condition, store_sides};
 ghost use Rattle.store.specs.Tables.{set_edge_con_weight_table, remove_edge_condition_table};
 
-use control_point::refusal::{Outcome, Refusal};
+use control_point::refusal::Refusal;
 use control_point::t_mesh_control_point::{
     Side, is_border, is_made, side_of, side_refusal, with_side,
 };
@@ -17,12 +16,12 @@ use store::store::{Changed, Store, point_at, settle};
 pub fn set_edge_con_weight(store: Store, n: u8, direction: TmeshDirection, weight: f64) -> Changed
     ensures is { result ≡ set_edge_con_weight store n direction weight }
     ensures told { outcome_told result.outcome ≡ set_edge_con_weight_table store n direction }
-    ensures border { result.outcome ≡ Done → store_sides result.store n direction ≡ Border weight }
+    ensures border { result.outcome ≡ Ok tt → store_sides result.store n direction ≡ Border weight }
 {
     let made = store.made;
     if !is_made(made, n) {
         return Changed {
-            outcome: Outcome::Refused(Refusal::NoPoint),
+            outcome: Err(Refusal::NoPoint),
             store,
         };
     }
@@ -36,12 +35,12 @@ pub fn set_edge_con_weight(store: Store, n: u8, direction: TmeshDirection, weigh
 pub fn remove_edge_condition(store: Store, n: u8, direction: TmeshDirection) -> Changed
     ensures is { result ≡ remove_edge_condition store n direction }
     ensures told { outcome_told result.outcome ≡ remove_edge_condition_table store n direction }
-    ensures opens { result.outcome ≡ Done → store_sides result.store n direction ≡ Opening }
+    ensures opens { result.outcome ≡ Ok tt → store_sides result.store n direction ≡ Opening }
 {
     let made = store.made;
     if !is_made(made, n) {
         return Changed {
-            outcome: Outcome::Refused(Refusal::NoPoint),
+            outcome: Err(Refusal::NoPoint),
             store,
         };
     }

@@ -4,10 +4,10 @@ ghost use Rattle.control_point.specs.Small.{millionth};
 ghost use Rattle.surface.specs.Evaluation.{evaluation_told, share_by, answer_by, subs_of, subs_table};
 
 use basis::basis_function;
-use control_point::refusal::Outcome;
+use control_point::refusal::Refusal;
 use knot_vectors::knots::generate_knot_vectors;
 use ray::knots::PointKnots;
-use surface::evaluation::{Evaluated, Evaluation, EvaluationAnswer, Share};
+use surface::evaluation::{Evaluated, Evaluation, Share};
 use t_mesh::t_mesh::{Place, Tmesh};
 
 // What a point adds at (s, t), by its knots, its position and its pull.
@@ -28,12 +28,12 @@ pub fn share_of(knots: PointKnots, place: Place, s: f64, t: f64) -> Share
 }
 
 // The value, where the knots were built.
-fn answer_by(outcome: Outcome, value: Evaluation) -> EvaluationAnswer
+fn answer_by(outcome: Result<(), Refusal>, value: Evaluation) -> Result<Evaluation, Refusal>
     ensures { result ≡ answer_by outcome value }
 {
     match outcome {
-        Outcome::Done => EvaluationAnswer::Is(value),
-        Outcome::Refused(refusal) => EvaluationAnswer::Refused(refusal),
+        Ok(()) => Ok(value),
+        Err(refusal) => Err(refusal),
     }
 }
 
@@ -42,7 +42,7 @@ pub fn subs(mut map: Tmesh, s: f64, t: f64) -> Evaluated
     ensures is { result ≡ subs_of millionth map s t }
     ensures told { evaluation_told result.answer ≡ subs_table millionth map s t }
 {
-    let mut outcome = Outcome::Done;
+    let mut outcome = Ok(());
     if !map.kept {
         let generated = generate_knot_vectors(map);
         outcome = generated.outcome;
@@ -54,8 +54,7 @@ pub fn subs(mut map: Tmesh, s: f64, t: f64) -> Evaluated
     let mut y = 0.0;
     let mut z = 0.0;
     let mut weight = 0.0;
-    let mut n: usize = 0;
-    while n < 128 {
+    for n in 0..128usize {
         if listed[n] {
             let share = share_of(map.knots[n], places[n], s, t);
             x = x + share.x;
@@ -63,7 +62,6 @@ pub fn subs(mut map: Tmesh, s: f64, t: f64) -> Evaluated
             z = z + share.z;
             weight = weight + share.weight;
         }
-        n += 1;
     }
     let value = Evaluation {
         x: x / weight,

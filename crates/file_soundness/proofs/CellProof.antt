@@ -1,6 +1,6 @@
 -- A file's edits are a list of calls, and no edit builds knots; so what is said of every answer over lists is said of the call's words, with the knots built of the
 -- map that the edits leave; and what the call wrote of them is read back as it was.
-use Rattle.std.specs.Prelude.{ℕ, ◌≤◌, ◌<◌, ◌^◌, ◌≡◌, refl, Bool, true, false, cond, List, [], ◌∷◌, ◌++◌, T, leb, Float, length}
+use Rattle.std.specs.Prelude.{ℕ, ◌≤◌, ◌<◌, ◌^◌, ◌≡◌, refl, Bool, true, false, cond, List, [], ◌∷◌, ◌++◌, T, leb, Float, length, Err, Ok, Result}
 use Rattle.std.proofs.Common.{sym, ap, ◌∙◌, subst, append_assoc, append-nil, arith, leb→le, length-append}
 use Rattle.std.proofs.lemmas.Nat.{ones-le}
 use Rattle.big_endian.specs.BigEndian.{number_at, float_at}
@@ -8,7 +8,6 @@ use Rattle.big_endian.proofs.ReadBackLaws.{number_back}
 use Rattle.big_endian.specs.Written.{written, bytes_of}
 use Rattle.big_endian.proofs.WrittenLaws.{length_bytes}
 use Rattle.control_point.specs.Small.{millionth}
-use Rattle.control_point.specs.declared.refusal.Outcome.TheVariants.{Done}
 use Rattle.control_point.specs.declared.refusal.Refusal.TheVariants.{Short}
 use Rattle.insertion.specs.Insert.{insert_point}
 use Rattle.ray.specs.declared.knots.PointKnots.{PointKnots}
@@ -20,14 +19,10 @@ use Rattle.t_mesh.specs.declared.t_mesh.Tmesh.{Tmesh}
 use Rattle.knot_vectors.specs.Knots.{generate_knot_vectors}
 use Rattle.surface.specs.Evaluation.{with_knots}
 use Rattle.cells.specs.Cells.{cell_number, cell_points}
-use Rattle.cells.specs.declared.CellAnswer.{CellAnswer}
-use Rattle.cells.specs.declared.CellAnswer.TheVariants.{Is, Refused}
 use Rattle.calls.proofs.WithdrawalLaws.{by_either_rule}
 use Rattle.soundness.proofs.IndexProof.{is_words, every_answer_says}
 use Rattle.soundness.specs.MapCalls.{entries}
 use Rattle.map_format.specs.Format.{border_at, edits_at, file_withdraws, edit_count, Edit, edits_from, checked_file}
-use Rattle.counted_file.specs.declared.FileCheck.{FileCheck}
-use Rattle.counted_file.specs.declared.FileCheck.TheVariants.{Valid, Refused as NotValid}
 use Rattle.map_file.specs.Run.{corner_of, fresh_map, edited, after_edits, file_map}
 use Rattle.map_file.proofs.RunLaws.{none_after}
 use Rattle.map_cell.specs.FileCell.{checked_cell, file_cell}
@@ -36,6 +31,7 @@ use Rattle.gatemap_host.specs.CellCall.{host_cell, cell_buffer_after}
 use Rattle.file_soundness.proofs.CallsLaws.{calls_of, edits_are_calls}
 use Rattle.file_soundness.proofs.FullStrokeProof.{numbered, OwnCount, own_count}
 use Rattle.file_soundness.specs.Theorems.{cell_in, map_of, FileCellSays}
+use Rattle.control_point.specs.declared.refusal.Refusal.{Refusal}
 
 -- ---- the buffer
 -- the words fit eight bytes each, and the count one
@@ -112,18 +108,18 @@ fresh_kept file = refl
 -- so a question builds them
 built : (e : Float) (map : Tmesh) (cell : ℕ) → map.kept ≡ false → (cell_points e map cell).map.knots ≡ (generate_knot_vectors e map).map.knots
 unfolding cell_points with_knots
-built e map cell h = ap (λ (kept : Bool). (cond kept (record { outcome = Done; map = map }) (generate_knot_vectors e map)).map.knots) h
+built e map cell h = ap (λ (kept : Bool). (cond kept (record { outcome = Ok tt; map = map }) (generate_knot_vectors e map)).map.knots) h
 
 -- ---- the answer
 module _ (file : List ℕ) (cell : ℕ) (h : cell < 256) where
   abbrev SaysOf : Cell → Type 0
   SaysOf = Says (map_of file).mesh.listed (generate_knot_vectors millionth (map_of file)).map.knots cell
 
-  map_says : (words : Cell) → (cell_points millionth (map_of file) cell).answer ≡ Is words → SaysOf words
+  map_says : (words : Cell) → (cell_points millionth (map_of file) cell).answer ≡ Ok words → SaysOf words
   map_says words is =
       subst (λ (knots : List PointKnots). Says (map_of file).mesh.listed knots cell words)
       (built millionth (map_of file) cell (never_kept (file_withdraws file) millionth (edits_from (edit_count file) file edits_at) (fresh_map file) (fresh_kept file)))
-      (subst (λ (map : Tmesh). (cell_points millionth map cell).answer ≡ Is words → Says map.mesh.listed (cell_points millionth map cell).map.knots cell words)
+      (subst (λ (map : Tmesh). (cell_points millionth map cell).answer ≡ Ok words → Says map.mesh.listed (cell_points millionth map cell).map.knots cell words)
       (sym (edits_are_calls (file_withdraws file) millionth (fresh_map file) (edits_from (edit_count file) file edits_at)))
       (every_answer_says millionth (float_at file border_at) (corner_of file 0) (corner_of file 1) (corner_of file 2) (corner_of file 3)
       (entries (calls_of (file_withdraws file) (edits_from (edit_count file) file edits_at)))
@@ -133,21 +129,21 @@ module _ (file : List ℕ) (cell : ℕ) (h : cell < 256) where
       h)
       is)
 
-  checked_says : (check : FileCheck) → OwnCount file check → (words : Cell) → checked_cell millionth file cell check ≡ Is words → SaysOf words
-  checked_says (Valid count) own words is =
-      map_says words (subst (λ (n : ℕ). (cell_points millionth (file_map millionth file n) cell).answer ≡ Is words) own is)
-  checked_says (NotValid refusal) own words is = absurd (subst is_words (sym is) tt)
+  checked_says : (check : Result ℕ Refusal) → OwnCount file check → (words : Cell) → checked_cell millionth file cell check ≡ Ok words → SaysOf words
+  checked_says (Ok count) own words is =
+      map_says words (subst (λ (n : ℕ). (cell_points millionth (file_map millionth file n) cell).answer ≡ Ok words) own is)
+  checked_says (Err refusal) own words is = absurd (subst is_words (sym is) tt)
 
   -- what the buffer holds, by the answer
-  buffer_says : (answer : CellAnswer) (out : List ℕ) → cell_bytes ≤ length out → ((words : Cell) → answer ≡ Is words → SaysOf words) → cell_number answer ≡ 0
+  buffer_says : (answer : Result Cell Refusal) (out : List ℕ) → cell_bytes ≤ length out → ((words : Cell) → answer ≡ Ok words → SaysOf words) → cell_number answer ≡ 0
       → SaysOf (cell_in (cell_buffer_after answer out))
-  buffer_says (Is words) out room says answered = let those = says words refl in subst SaysOf (sym (words_back words out (says_fits _ _ cell words those) room)) those
-  buffer_says (Refused refusal) out room says answered = absurd (numbered refusal answered)
+  buffer_says (Ok words) out room says answered = let those = says words refl in subst SaysOf (sym (words_back words out (says_fits _ _ cell words those) room)) those
+  buffer_says (Err refusal) out room says answered = absurd (numbered refusal answered)
 
   -- with room for the words or without
-  with_room : (enough : Bool) (answer : CellAnswer) (out : List ℕ) → (T enough → cell_bytes ≤ length out) → ((words : Cell) → answer ≡ Is words → SaysOf words)
-      → cell_number (cond enough answer (Refused Short)) ≡ 0
-      → SaysOf (cell_in (cell_buffer_after (cond enough answer (Refused Short)) out))
+  with_room : (enough : Bool) (answer : Result Cell Refusal) (out : List ℕ) → (T enough → cell_bytes ≤ length out) → ((words : Cell) → answer ≡ Ok words → SaysOf words)
+      → cell_number (cond enough answer (Err Short)) ≡ 0
+      → SaysOf (cell_in (cell_buffer_after (cond enough answer (Err Short)) out))
   with_room true answer out room says answered = buffer_says answer out (room tt) says answered
   with_room false answer out room says answered = absurd (numbered Short answered)
 

@@ -1,6 +1,6 @@
 -- The bound for files: a file's edits and one set-point are a list of calls, to which the bound over lists applies; what the call wrote of its answer is read
 -- back as it was.
-use Rattle.std.specs.Prelude.{ℕ, ◌≤◌, ◌<◌, ◌≡◌, refl, Bool, true, false, cond, T, leb, Float, length}
+use Rattle.std.specs.Prelude.{ℕ, ◌≤◌, ◌<◌, ◌≡◌, refl, Bool, true, false, cond, T, leb, Float, length, Err, Ok, Result, ⊤}
 use Rattle.std.proofs.Common.{sym, ap, ◌∙◌, arith, leb→le, lit<, length-append}
 use Rattle.std.proofs.Math.Path.{subst}
 use mathlib.Core.List.{List, [], ◌∷◌, ◌++◌, append_assoc}
@@ -16,8 +16,6 @@ use Rattle.big_endian.specs.Written.{written}
 use Rattle.big_endian.proofs.WrittenLaws.{length_bytes}
 use Rattle.control_point.specs.Refusal.{refusal_number}
 use Rattle.control_point.specs.Small.{millionth}
-use Rattle.control_point.specs.declared.refusal.Outcome.{Outcome}
-use Rattle.control_point.specs.declared.refusal.Outcome.TheVariants.{Done, Refused as NotBuilt}
 use Rattle.control_point.specs.declared.refusal.Refusal.{Refusal}
 use Rattle.control_point.specs.declared.refusal.Refusal.TheVariants.{Ratio, Foreign, OpenSide, BorderSide, Taken, Interval, Itself, Torn, Ring, Full, NoPoint, Length, Version, Heading, NoWeight, Short, Pull, Clash, Shut, OffMap, Seed, TooMany, UnlikeHeads, TooLong, Closeness, Ticks, Doubled}
 use Rattle.t_mesh.specs.Tmesh.{Axis, X, Y, Z, coordinate, no_position}
@@ -27,8 +25,6 @@ use Rattle.surface.specs.Evaluation.{on_axis, evaluation_number, value_of, answe
 use Rattle.surface.specs.SetPoint.{set_point}
 use Rattle.surface.proofs.SetPointLaws.{is_value, value_in, set_point_is}
 use Rattle.surface.specs.declared.evaluation.Evaluation.{Evaluation}
-use Rattle.surface.specs.declared.evaluation.EvaluationAnswer.{EvaluationAnswer}
-use Rattle.surface.specs.declared.evaluation.EvaluationAnswer.TheVariants.{Is, Refused}
 use Rattle.calls.specs.Calls.{Call, insertion, evaluation, set_point_call, question, pulling, Answer, evaluated, run_of}
 use Rattle.calls.specs.FullStroke.{InUnit, InUnitAt, Each, DoneInUnit as CallDoneInUnit, SetPointInUnit}
 use Rattle.calls.proofs.FullStrokeProof.{never_past_full_stroke}
@@ -36,8 +32,6 @@ use Rattle.counting.proofs.BoolLaws.{cond_case}
 use Rattle.soundness.specs.MapCalls.{answer_told}
 use Rattle.map_format.specs.Format.{border_at, edits_at, file_withdraws, edit_count, version_of, is_version, Edit, edits_from, length_right, headings_right, checked_file}
 use Rattle.map_file.specs.Run.{corner_of, fresh_map, edited, after_edits, edit_answers, edit_numbers, file_map, file_numbers, checked_set_point, file_set_point}
-use Rattle.counted_file.specs.declared.FileCheck.{FileCheck}
-use Rattle.counted_file.specs.declared.FileCheck.TheVariants.{Valid, Refused as NotValid}
 use Rattle.value_bytes.specs.Value.{bits_of, bytes_of_value}
 use Rattle.gatemap_host.specs.SetPoint.{host_answer, buffer_after}
 use Rattle.file_soundness.proofs.CallsLaws.{calls_of}
@@ -88,12 +82,12 @@ quotient_fits X map s t = div-fits binary64 _ _
 quotient_fits Y map s t = div-fits binary64 _ _
 quotient_fits Z map s t = div-fits binary64 _ _
 
-answer_fits : (axis : Axis) (outcome : Outcome) (map : Tmesh) (s t : Float) (value : Evaluation) → answer_by outcome (value_of map s t) ≡ Is value
+answer_fits : (axis : Axis) (outcome : Result ⊤ Refusal) (map : Tmesh) (s t : Float) (value : Evaluation) → answer_by outcome (value_of map s t) ≡ Ok value
     → T (fits binary64 (on_axis axis value))
-answer_fits axis Done map s t value is = subst (λ (v : Evaluation). T (fits binary64 (on_axis axis v))) (ap (value_in value) is) (quotient_fits axis map s t)
-answer_fits axis (NotBuilt refusal) map s t value is = absurd (subst is_value (sym is) tt)
+answer_fits axis (Ok tt) map s t value is = subst (λ (v : Evaluation). T (fits binary64 (on_axis axis v))) (ap (value_in value) is) (quotient_fits axis map s t)
+answer_fits axis (Err refusal) map s t value is = absurd (subst is_value (sym is) tt)
 
-value_fits : (axis : Axis) (e : Float) (map : Tmesh) (s t : Float) (value : Evaluation) → (subs_of e map s t).answer ≡ Is value → T (fits binary64 (on_axis axis value))
+value_fits : (axis : Axis) (e : Float) (map : Tmesh) (s t : Float) (value : Evaluation) → (subs_of e map s t).answer ≡ Ok value → T (fits binary64 (on_axis axis value))
 unfolding subs_of
 value_fits axis e map s t value is = answer_fits axis (with_knots e map).outcome (with_knots e map).map s t value is
 
@@ -175,9 +169,9 @@ abbrev Shown : Axis → Float → Float → Evaluation → Type 0
 Shown axis s t value = InUnitAt s t (on_axis axis value) × T (fits binary64 (on_axis axis value))
 
 -- the count of a valid file is that of its length
-abbrev pub OwnCount : List ℕ → FileCheck → Type 0
-OwnCount file (Valid count) = count ≡ edit_count file
-OwnCount file (NotValid refusal) = Unit {0}
+abbrev pub OwnCount : List ℕ → Result ℕ Refusal → Type 0
+OwnCount file (Ok count) = count ≡ edit_count file
+OwnCount file (Err refusal) = Unit {0}
 
 pub own_count : (file : List ℕ) → OwnCount file (checked_file file)
 unfolding checked_file
@@ -199,7 +193,7 @@ module _ (file : List ℕ) (axis : Axis) (s t : Float) where
       (done : DoneInUnit axis edits (file_numbers millionth file (edit_count file)))
     where
       -- the set-point of the map that the edits leave
-      in_unit_lem : (value : Evaluation) → (set_point millionth (map_of file) s t).answer ≡ Is value → Shown axis s t value
+      in_unit_lem : (value : Evaluation) → (set_point millionth (map_of file) s t).answer ≡ Ok value → Shown axis s t value
       in_unit_lem value is = (
         last_call axis (file_withdraws file) millionth s t edits (fresh_map file)
             (never_past_full_stroke millionth (float_at file border_at) (corner_of file 0) (corner_of file 1) (corner_of file 2) (corner_of file 3) axis
@@ -218,10 +212,10 @@ module _ (file : List ℕ) (axis : Axis) (s t : Float) where
       )
 
       -- a file that is valid has its own count of edits
-      checked_in_unit : (check : FileCheck) → OwnCount file check → (value : Evaluation) → checked_set_point millionth file s t check ≡ Is value → Shown axis s t value
-      checked_in_unit (Valid count) own value is =
-          in_unit_lem value (subst (λ (n : ℕ). (set_point millionth (file_map millionth file n) s t).answer ≡ Is value) own is)
-      checked_in_unit (NotValid refusal) own value is = absurd (subst is_value (sym is) tt)
+      checked_in_unit : (check : Result ℕ Refusal) → OwnCount file check → (value : Evaluation) → checked_set_point millionth file s t check ≡ Ok value → Shown axis s t value
+      checked_in_unit (Ok count) own value is =
+          in_unit_lem value (subst (λ (n : ℕ). (set_point millionth (file_map millionth file n) s t).answer ≡ Ok value) own is)
+      checked_in_unit (Err refusal) own value is = absurd (subst is_value (sym is) tt)
 
 module _ (axis : Axis) (s t : Float) (out : List ℕ) where
   -- the same of what is read in a buffer
@@ -229,16 +223,16 @@ module _ (axis : Axis) (s t : Float) (out : List ℕ) where
   Written bytes = InUnitAt s t (float_at bytes (place_of axis))
 
   -- what the buffer holds, by the answer
-  buffer_in_unit : (answer : EvaluationAnswer) → 32 ≤ length out → ((value : Evaluation) → answer ≡ Is value → Shown axis s t value)
+  buffer_in_unit : (answer : Result Evaluation Refusal) → 32 ≤ length out → ((value : Evaluation) → answer ≡ Ok value → Shown axis s t value)
       → evaluation_number answer ≡ 0 → Written (buffer_after answer out)
-  buffer_in_unit (Is value) room says answered =
+  buffer_in_unit (Ok value) room says answered =
       let shown = says value refl in (shown.0.0, (shown.0.1.0, subst InUnit (sym (written_back axis value out shown.1 room)) shown.0.1.1))
-  buffer_in_unit (Refused refusal) room says answered = absurd (numbered refusal answered)
+  buffer_in_unit (Err refusal) room says answered = absurd (numbered refusal answered)
 
   -- with room for a value or without
-  with_room : (enough : Bool) (answer : EvaluationAnswer) → (T enough → 32 ≤ length out) → ((value : Evaluation) → answer ≡ Is value → Shown axis s t value)
-      → evaluation_number (cond enough answer (Refused Short)) ≡ 0
-      → Written (buffer_after (cond enough answer (Refused Short)) out)
+  with_room : (enough : Bool) (answer : Result Evaluation Refusal) → (T enough → 32 ≤ length out) → ((value : Evaluation) → answer ≡ Ok value → Shown axis s t value)
+      → evaluation_number (cond enough answer (Err Short)) ≡ 0
+      → Written (buffer_after (cond enough answer (Err Short)) out)
   with_room true answer room says answered = buffer_in_unit answer (room tt) says answered
   with_room false answer room says answered = absurd (numbered Short answered)
 

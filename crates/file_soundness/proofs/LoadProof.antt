@@ -1,5 +1,5 @@
 -- What the C call for a load leaves is the load's file, which is read as it was made; its border weight, its corners and its positions meet the premises of the bound for files.
-use Rattle.std.specs.Prelude.{ℕ, ◌≤◌, ◌≡◌, refl, List, [], ◌∷◌, ◌++◌, ◌⊎◌, T, Float, length, take, drop}
+use Rattle.std.specs.Prelude.{ℕ, ◌≤◌, ◌≡◌, refl, List, [], ◌∷◌, ◌++◌, ◌⊎◌, T, Float, length, take, drop, Err, Ok, Result}
 use Rattle.std.proofs.Common.{sym, ap, ◌∙◌, subst, inl, inr, ⊎_elim, arith}
 use Rattle.std.specs.Float.Ieee.{le}
 use Rattle.std.proofs.Math.Seq.{take-append_seam, drop-append_seam}
@@ -12,7 +12,6 @@ use Rattle.control_point.specs.Refusal.{refusal_number}
 use Rattle.control_point.specs.Small.{millionth}
 use Rattle.control_point.specs.declared.refusal.Refusal.{Refusal}
 use Rattle.control_point.specs.declared.refusal.Refusal.TheVariants.{Short, Seed, TooMany}
-use Rattle.counted_file.specs.declared.FileCheck.TheVariants.{Valid}
 use Rattle.gatemap_host.specs.LoadCall.{host_load_number}
 use Rattle.load.specs.Load.{load_file, load_answer, load_buffer}
 use Rattle.load.proofs.LoadLaws.{load_case}
@@ -22,8 +21,6 @@ use Rattle.map_format.specs.Format.{border_at, most_edits, Edit, edit_count, edi
 use Rattle.map_file.specs.Run.{corner_of, file_numbers}
 use Rattle.map_format.specs.declared.format.Head.{Head}
 use Rattle.map_writing.specs.Answer.{write_told, length_or_number, buffer_with}
-use Rattle.map_writing.specs.declared.WriteAnswer.{WriteAnswer}
-use Rattle.map_writing.specs.declared.WriteAnswer.TheVariants.{Is, Refused}
 use Rattle.soundness.specs.Theorems.{OneOf}
 use Rattle.t_mesh.specs.Tmesh.{Axis, X, Y, Z, coordinate}
 use Rattle.t_mesh.specs.declared.t_mesh.Position.{Position}
@@ -32,16 +29,16 @@ use Rattle.file_soundness.specs.Theorems.{DoneInUnit, Loaded, LoadNumbersNamed, 
 
 -- ---- the numbers
 -- of a refusal that is another's, its number
-same_refusal : (one other : Refusal) → Refused one ≡ Refused other → refusal_number other ≡ refusal_number one
-same_refusal one other same = ap (λ (answer : WriteAnswer). (write_told answer).number) (sym same)
+same_refusal : (one other : Refusal) → ◌≡◌ {A = Result ℕ Refusal} (Err one) (Err other) → refusal_number other ≡ refusal_number one
+same_refusal one other same = ap (λ (answer : Result ℕ Refusal). (write_told answer).number) (sym same)
 
-length_refused : (bytes : ℕ) (refusal : Refusal) → Is bytes ≡ Refused refusal → ⊥
+length_refused : (bytes : ℕ) (refusal : Refusal) → Ok bytes ≡ Err refusal → ⊥
 length_refused bytes refusal same = let z : ◌≡◌ {A = ℕ} 0 1 = cc in omega arith
 
 -- a refusal is one of three
-refused_named : (seed count room : ℕ) (refusal : Refusal) → load_answer seed count room ≡ Refused refusal → OneOf (refusal_number refusal) (16 ∷ (21 ∷ (22 ∷ [])))
+refused_named : (seed count room : ℕ) (refusal : Refusal) → load_answer seed count room ≡ Err refusal → OneOf (refusal_number refusal) (16 ∷ (21 ∷ (22 ∷ [])))
 refused_named seed count room refusal =
-    load_case seed count room (λ answer. answer ≡ Refused refusal → OneOf (refusal_number refusal) (16 ∷ (21 ∷ (22 ∷ []))))
+    load_case seed count room (λ answer. answer ≡ Err refusal → OneOf (refusal_number refusal) (16 ∷ (21 ∷ (22 ∷ []))))
     (λ is. inr (inl (same_refusal Seed refusal is)))
     (λ is. inr (inr (inl (same_refusal TooMany refusal is))))
     (λ few short is. inl (same_refusal Short refusal is))
@@ -49,11 +46,11 @@ refused_named seed count room refusal =
 
 module _ (seed count : ℕ) (out : List ℕ) where
   -- by the answer
-  abbrev Left : WriteAnswer → Type 0
+  abbrev Left : Result ℕ Refusal → Type 0
   Left answer =
       (OneOf (length_or_number (write_told answer)) (16 ∷ (21 ∷ (22 ∷ []))) × (load_buffer seed count out ≡ out)) ⊎ Loaded seed count out (length_or_number (write_told answer))
 
-  loaded : (bytes : ℕ) → load_answer seed count (length out) ≡ Is bytes → Loaded seed count out bytes
+  loaded : (bytes : ℕ) → load_answer seed count (length out) ≡ Ok bytes → Loaded seed count out bytes
   loaded bytes is =
       let front = load_at_front seed count bytes out is in
       let long = front.1 in (
@@ -65,9 +62,9 @@ module _ (seed count : ℕ) (out : List ℕ) where
         ap (drop bytes) front.3 ∙ ap (λ (n : ℕ). drop n (load_file seed count ++ drop bytes out)) long ∙ drop-append_seam (load_file seed count) (drop bytes out),
       )
 
-  left : (answer : WriteAnswer) → load_answer seed count (length out) ≡ answer → Left answer
-  left (Is bytes) is = inr (loaded bytes is)
-  left (Refused refusal) is = inl (refused_named seed count (length out) refusal is, ap (λ (answer : WriteAnswer). buffer_with (load_file seed count) answer out) is)
+  left : (answer : Result ℕ Refusal) → load_answer seed count (length out) ≡ answer → Left answer
+  left (Ok bytes) is = inr (loaded bytes is)
+  left (Err refusal) is = inl (refused_named seed count (length out) refusal is, ap (λ (answer : Result ℕ Refusal). buffer_with (load_file seed count) answer out) is)
 
 pub load_numbers_named : LoadNumbersNamed
 load_numbers_named seed count out = left seed count out (load_answer seed count (length out)) refl
@@ -111,5 +108,5 @@ load_never_past_full_stroke seed count few s t out axis =
 pub loaded_never_past_full_stroke : LoadedNeverPastFullStroke
 loaded_never_past_full_stroke seed count buffer long =
     let loaded = length_loaded seed count buffer long in
-    subst (λ (file : List ℕ). (checked_file file ≡ Valid count) × SetPointsInUnit file) (sym loaded.2)
+    subst (λ (file : List ℕ). (checked_file file ≡ Ok count) × SetPointsInUnit file) (sym loaded.2)
     ((load_is_read seed count loaded.0).0, load_never_past_full_stroke seed count loaded.0)

@@ -1,14 +1,13 @@
 -- Withdrawn edits leave no trace: a withdrawn edit leaves the map before it, and one that is not torn leaves the same map by either rule. As many points are listed as made: the
 -- ledger of a file that withdraws has no torn edit, so that each point made is that of an edit done.
-use Rattle.std.specs.Prelude.{ℕ, ◌+◌, ◌≡◌, Bool, cond, Float}
+use Rattle.std.specs.Prelude.{ℕ, ◌+◌, ◌≡◌, Bool, cond, Float, Err, Ok, Result}
 use Rattle.std.proofs.Math.Path.{refl, ap}
 use Rattle.std.proofs.Common.{sym, ◌∙◌, subst, arith}
 use Rattle.std.proofs.Math.Bool.{true, false}
 use mathlib.Core.List.{List, [], ◌∷◌}
 use Rattle.insertion.specs.Insert.{is_torn}
 use Rattle.insertion.proofs.WithdrawalLaws.{untorn_not_withdrawn}
-use Rattle.insertion.specs.declared.insertion.InsertAnswer.{InsertAnswer}
-use Rattle.insertion.specs.declared.insertion.InsertAnswer.TheVariants.{Done, Torn, Refused}
+use Rattle.insertion.specs.declared.insertion.Insertion.TheVariants.{Done, Torn}
 use Rattle.t_mesh.specs.declared.t_mesh.Tmesh.{Tmesh}
 use Rattle.census.specs.declared.census.Counts.{Counts}
 use Rattle.ledger.specs.Ledger.{entered, total, done_or_torn, insertions_done}
@@ -16,6 +15,8 @@ use Rattle.map_format.specs.Format.{Edit}
 use Rattle.map_file.specs.Run.{edited, after_edits, edit_answers, file_answers}
 use Rattle.file_soundness.proofs.LedgerProof.{file_ledger}
 use Rattle.file_soundness.specs.Theorems.{untorn, WithdrawnLeaveNoTrace, AsManyListedAsMade}
+use Rattle.control_point.specs.declared.refusal.Refusal.{Refusal}
+use Rattle.insertion.specs.declared.insertion.Insertion.{Insertion}
 
 -- ---- no trace
 module _ (withdraws : Bool) (e : Float) where
@@ -28,7 +29,7 @@ module _ (withdraws : Bool) (e : Float) where
 
   -- an edit before others
   module _ (before : Tmesh) (edit : Edit) where
-    abbrev answer : InsertAnswer
+    abbrev answer : Result Insertion Refusal
     answer = (edited true e before edit).answer
 
     -- the map that it leaves where torn edits stay
@@ -55,7 +56,7 @@ module _ (withdraws : Bool) (e : Float) where
     unfolding edit_answers
     answers_by rest same true is = same before
     answers_by rest same false is =
-        ap (λ (answers : List InsertAnswer). answer ∷ answers) (same after ∙ ap (λ (map : Tmesh). edit_answers withdraws e map (untorn e after rest)) (sym (stands is)))
+        ap (λ (answers : List (Result Insertion Refusal)). answer ∷ answers) (same after ∙ ap (λ (map : Tmesh). edit_answers withdraws e map (untorn e after rest)) (sym (stands is)))
 
   same_map : (edits : List Edit) → SameMap edits
   unfolding after_edits untorn
@@ -72,12 +73,12 @@ withdrawn_leave_no_trace withdraws e before edits = (same_map withdraws e edits 
 
 -- ---- as many listed as made
 -- no torn answer is entered where torn insertions are withdrawn
-none_torn : (answers : List InsertAnswer) → done_or_torn (entered true answers) ≡ insertions_done (entered true answers)
+none_torn : (answers : List (Result Insertion Refusal)) → done_or_torn (entered true answers) ≡ insertions_done (entered true answers)
 unfolding entered total
 none_torn [] = refl
-none_torn (Done opened inferred ∷ rest) = omega (arith, none_torn rest)
-none_torn (Torn opened inferred ∷ rest) = none_torn rest
-none_torn (Refused refusal ∷ rest) = omega (arith, none_torn rest)
+none_torn ((Ok (Done opened inferred)) ∷ rest) = omega (arith, none_torn rest)
+none_torn ((Ok (Torn opened inferred)) ∷ rest) = none_torn rest
+none_torn (Err refusal ∷ rest) = omega (arith, none_torn rest)
 
 pub as_many_listed_as_made : AsManyListedAsMade
 as_many_listed_as_made e file count withdraws =

@@ -1,7 +1,7 @@
 -- Theorems on map files, seasons and loads: statements only, with what they speak of. A file is any list of bytes. What the program prints of it is `report_of`, and what a C host
 -- gets is `host_number` and `host_buffer`, of a cell `host_cell_number` and `host_cell_buffer`, of a season `host_season_number` and `host_season_buffer`, and of a load `host_load_number` and `load_buffer`: the definitions that the
 -- contracts of the code cite.
-use Rattle.std.specs.Prelude.{ℕ, ◌+◌, ◌*◌, ◌^◌, ◌<◌, ◌≤◌, ◌≡◌, Bool, true, false, cond, not, ◌&&◌, List, [], ◌∷◌, ◌++◌, ◌⊎◌, T, eqb, leb, Float, length, take, drop}
+use Rattle.std.specs.Prelude.{ℕ, ◌+◌, ◌*◌, ◌^◌, ◌<◌, ◌≤◌, ◌≡◌, Bool, true, false, cond, not, ◌&&◌, List, [], ◌∷◌, ◌++◌, ◌⊎◌, T, eqb, leb, Float, length, take, drop, Err, Ok, Result}
 use Rattle.std.specs.Float.{binary64}
 use Rattle.std.specs.Float.Ieee.{of_bits, le}
 use Rattle.float64.specs.Sign.{0f}
@@ -10,7 +10,6 @@ use Rattle.control_point.specs.Refusal.{refusal_number}
 use Rattle.control_point.specs.Small.{millionth}
 use Rattle.control_point.specs.declared.refusal.Refusal.{Refusal}
 use Rattle.insertion.specs.Insert.{is_torn}
-use Rattle.insertion.specs.declared.insertion.InsertAnswer.{InsertAnswer}
 use Rattle.t_mesh.specs.Tmesh.{Axis, X, Y, Z, coordinate, store_of}
 use Rattle.t_mesh.specs.declared.t_mesh.Tmesh.{Tmesh}
 use Rattle.surface.specs.SetPoint.{on_map}
@@ -21,8 +20,6 @@ use Rattle.ledger.specs.Ledger.{entered, counts_by, openings_by}
 use Rattle.ledger.specs.Theorem.{HasLedger}
 use Rattle.map_format.specs.Format.{border_at, edits_at, file_withdraws, edit_count, Edit, edits_from, checked_file}
 use Rattle.map_file.specs.Run.{corner_of, edited, after_edits, edit_answers, file_map, file_answers, file_numbers}
-use Rattle.counted_file.specs.declared.FileCheck.{FileCheck}
-use Rattle.counted_file.specs.declared.FileCheck.TheVariants.{Valid, Refused}
 use Rattle.report_text.specs.Text.{file_word, newline, refused_text}
 use Rattle.openings.specs.Openings.{openings_of}
 use Rattle.report_lines.specs.Lines.{edit_lines, counts_line, open_lines, mid_line}
@@ -37,6 +34,7 @@ use Rattle.season_window.specs.Theorems.{Holds}
 use Rattle.grid_index.specs.CellTheorem.{Says}
 use Rattle.grid_index.specs.declared.Cell.{Cell}
 use Rattle.knot_vectors.specs.Knots.{generate_knot_vectors}
+use Rattle.insertion.specs.declared.insertion.Insertion.{Insertion}
 
 -- ---- one definition at both ends
 -- the bits of 0.5
@@ -48,7 +46,7 @@ half_bits = 0x3fe0_0000_0000_0000
 abbrev pub EndsAgree : Type 0
 EndsAgree =
     (file : List ℕ) (count room : ℕ)
-    → checked_file file ≡ Valid count
+    → checked_file file ≡ Ok count
     → 32 ≤ room
     → report_of file
     ≡ edit_lines 1 (file_numbers millionth file count)
@@ -60,7 +58,7 @@ EndsAgree =
 abbrev pub EndsRefuse : Type 0
 EndsRefuse =
     (file : List ℕ) (refusal : Refusal)
-    → checked_file file ≡ Refused refusal
+    → checked_file file ≡ Err refusal
     → (report_of file ≡ file_word ++ (refused_text (refusal_number refusal) ++ newline))
     × ((s t : ℕ) (out : List ℕ) → 32 ≤ length out → (host_number file s t out ≡ refusal_number refusal) × (host_buffer file s t out ≡ out))
 
@@ -71,9 +69,9 @@ NumbersNamed =
     (file : List ℕ) (s t : ℕ) (out : List ℕ) → OneOf (host_number file s t out) (0 ∷ (3 ∷ (4 ∷ (9 ∷ (12 ∷ (13 ∷ (14 ∷ (15 ∷ (16 ∷ (20 ∷ []))))))))))
 
 -- whether a file is not refused
-abbrev pub is_valid : FileCheck → Bool
-is_valid (Valid count) = true
-is_valid (Refused refusal) = false
+abbrev pub is_valid : Result ℕ Refusal → Bool
+is_valid (Ok count) = true
+is_valid (Err refusal) = false
 
 -- Whatever it is given, it returns 20 exactly where the buffer has room, the file is not refused, and s or t does not lie from 0 to 1; and the buffer is then as it was.
 abbrev pub OffMapRefused : Type 0
@@ -184,11 +182,11 @@ LoadedNeverPastFullStroke =
     (seed count : ℕ) (buffer : List ℕ)
     → 109 ≤ host_load_number seed count buffer
     → let file = take (host_load_number seed count buffer) (load_buffer seed count buffer) in
-    (checked_file file ≡ Valid count) × SetPointsInUnit file
+    (checked_file file ≡ Ok count) × SetPointsInUnit file
 
 -- ---- THE LEDGER OF SIDES, for files
 -- the answers of a file's edits that are entered in the ledger: those of withdrawn edits are left out, and where torn edits stay none is (`all_entered`)
-abbrev pub file_entered : Float → List ℕ → ℕ → List InsertAnswer
+abbrev pub file_entered : Float → List ℕ → ℕ → List (Result Insertion Refusal)
 file_entered e file count = entered (file_withdraws file) (file_answers e file count)
 
 -- The map that the edits of a file leave has the points, links, borders and openings that the answers of its edits give, no withdrawn one among them, and each link
@@ -201,7 +199,7 @@ FileLedger = (e : Float) (file : List ℕ) (count : ℕ) → HasLedger (file_map
 abbrev pub ReportByAnswers : Type 0
 ReportByAnswers =
     (file : List ℕ) (count room : ℕ)
-    → checked_file file ≡ Valid count
+    → checked_file file ≡ Ok count
     → 32 ≤ room
     → let answers = file_entered millionth file count in
     let openings = openings_of (store_of (file_map millionth file count)) in

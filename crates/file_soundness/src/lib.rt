@@ -1,2 +1,2 @@
-// Theorems on map files: definitions, statements and proofs in specs/, and no function.
+// Theorems on map files: definitions and statements in specs/, proofs in proofs/, and no function.
 #![tactic(auto)]

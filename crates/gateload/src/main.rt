@@ -3,6 +3,7 @@
 
 use load::{ASKED_BYTES, write_asked};
 use map_format::format::MOST_FILE_BYTES;
+use map_writing::bytes_written;
 use reading::read_full;
 
 // One byte more than what is asked for: an input that fills this has a wrong length.
@@ -13,6 +14,6 @@ fn main(rt: HostRuntime) {
     let mut input = [0u8; INPUT_BYTES];
     let read = read_full(&mut rt.stdin(), &mut input).unwrap_or(0);
     let mut file = [0u8; MOST_FILE_BYTES];
-    let written = write_asked(&input[..read], &mut file).bytes_written();
+    let written = bytes_written(write_asked(&input[..read], &mut file));
     let _ = rt.write_all(&file[..written]);
 }

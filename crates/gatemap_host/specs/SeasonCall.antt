@@ -1,25 +1,24 @@
 -- The C call for a season (`gatemap_season`): the season, a minute and a buffer. Refusals in order: a buffer under 1 byte 16, the season's 12, 13, 18, shut 19. Else the answer is 0, and the first byte of
 -- the buffer receives the number of the map that is to be used at the minute; the rest of it, and refused all of it, is untouched.
-use Rattle.std.specs.Prelude.{ℕ, cond, List, [], ◌∷◌, leb, length}
+use Rattle.std.specs.Prelude.{ℕ, cond, List, [], ◌∷◌, leb, length, Err, Ok, Result}
 use Rattle.big_endian.specs.Written.{written}
 use Rattle.control_point.specs.Told.{Told, unless}
 use Rattle.control_point.specs.declared.refusal.Refusal.TheVariants.{Short}
 use Rattle.season.specs.Season.{season_map, season_number, season_map_table}
-use Rattle.season.specs.declared.SeasonAnswer.{SeasonAnswer}
-use Rattle.season.specs.declared.SeasonAnswer.TheVariants.{Is, Refused}
+use Rattle.control_point.specs.declared.refusal.Refusal.{Refusal}
 
 -- what a map's number takes in the buffer
 abbrev pub map_number_bytes : ℕ
 map_number_bytes = 1
 
 -- what the call finds, in a buffer of a length
-unfoldable pub host_season : List ℕ → ℕ → ℕ → SeasonAnswer
-host_season season minute room = cond (leb map_number_bytes room) (season_map season minute) (Refused Short)
+unfoldable pub host_season : List ℕ → ℕ → ℕ → Result ℕ Refusal
+host_season season minute room = cond (leb map_number_bytes room) (season_map season minute) (Err Short)
 
 -- the buffer after it
-abbrev pub season_buffer_after : SeasonAnswer → List ℕ → List ℕ
-season_buffer_after (Is map) out = written out 0 (map ∷ [])
-season_buffer_after (Refused refusal) out = out
+abbrev pub season_buffer_after : Result ℕ Refusal → List ℕ → List ℕ
+season_buffer_after (Ok map) out = written out 0 (map ∷ [])
+season_buffer_after (Err refusal) out = out
 
 -- the number that it returns, and the buffer that it leaves
 abbrev pub host_season_number : List ℕ → ℕ → List ℕ → ℕ

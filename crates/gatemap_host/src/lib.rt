@@ -1,24 +1,24 @@
 // The calls of a C host: the bytes of a map file or of a season, what is asked of it, and a buffer that receives the answer; and a load, which a seed and a count stand for. include/gatemap_host.h says them in C.
 #![tactic(auto)]
 
-ghost use Rattle.std.specs.Prelude.{◌≡◌, length};
-ghost use Rattle.gatemap_host.specs.CellCall.{host_cell, host_cell_number, host_cell_buffer, host_cell_table};
+ghost use Rattle.std.specs.Prelude.{◌≡◌, ◌≤◌, ◌<◌, length, MatchResult};
+ghost use Rattle.control_point.specs.Told.{number_of};
+ghost use Rattle.gatemap_host.specs.CellCall.{host_cell_number, host_cell_buffer, host_cell_table};
 ghost use Rattle.gatemap_host.specs.LoadCall.{host_load_number};
-ghost use Rattle.gatemap_host.specs.SeasonCall.{host_season, host_season_number, host_season_buffer, host_season_table};
-ghost use Rattle.gatemap_host.specs.SetPoint.{host_answer, host_number, host_buffer, host_table};
+ghost use Rattle.gatemap_host.specs.SeasonCall.{host_season_number, host_season_buffer, host_season_table};
+ghost use Rattle.gatemap_host.specs.SetPoint.{host_number, host_buffer, host_table};
 ghost use Rattle.load.specs.Load.{load_buffer, load_table};
 ghost use Rattle.map_writing.specs.Answer.{length_or_number};
 
 use big_endian::put_byte;
 use cell_bytes::write_cell;
-use cells::CellAnswer;
-use control_point::refusal::Refusal;
+use control_point::refusal::{Refusal, number_of};
 use float64::from_bits;
 use load::write_load;
 use map_cell::file_cell;
 use map_set_point::file_set_point;
-use season::{SeasonAnswer, season_map};
-use surface::evaluation::EvaluationAnswer;
+use map_writing::length_or_number;
+use season::season_map;
 use value_bytes::write_value;
 
 // A position and its weight, as they are written.
@@ -30,17 +30,33 @@ const CELL_BYTES: usize = 17;
 // A map's number, as it is written.
 const MAP_NUMBER_BYTES: usize = 1;
 
-// The number of a call whose answer is written.
-const DONE: u64 = 0;
-
-// What the call for a set-point finds, for a buffer of a length: a short one is refused before the file is looked at.
-fn host_answer(file: &[u8], s: u64, t: u64, room: usize) -> EvaluationAnswer
-    ensures { result ≡ host_answer file.now s t room }
+// Whether a buffer has room for what a call writes: a short one is refused before anything else is looked at.
+fn has_room(out: &[u8], bytes: usize) -> Result<(), Refusal>
+    ensures { MatchResult result (λ _. bytes ≤ length out.now) (λ refusal. (refusal ≡ Refusal.Short) × (length out.now < bytes)) }
 {
-    if room < VALUE_BYTES {
-        return EvaluationAnswer::Refused(Refusal::Short);
+    if out.len() < bytes {
+        return Err(Refusal::Short);
     }
-    file_set_point(file, from_bits(s), from_bits(t))
+    Ok(())
+}
+
+// What a call returns: 0 where its answer is written, or else its refusal's number.
+fn call_number(written: Result<(), Refusal>) -> u64
+    ensures { result ≡ number_of written }
+{
+    u64::from(number_of(&written))
+}
+
+// Writes a set-point, or says why there is none.
+fn write_set_point(file: &[u8], s: u64, t: u64, out: &mut [u8]) -> Result<(), Refusal>
+    ensures number { number_of result ≡ host_number file.now s t out.old }
+    ensures buffer { out.new ≡ host_buffer file.now s t out.old }
+    ensures told { number_of result ≡ (host_table file.now s t (length out.old)).number }
+{
+    has_room(out, VALUE_BYTES)?;
+    let value = file_set_point(file, from_bits(s), from_bits(t))?;
+    write_value(out, value);
+    Ok(())
 }
 
 pub fn gatemap_set_point(file: &[u8], s: u64, t: u64, out: &mut [u8]) -> u64
@@ -48,23 +64,19 @@ pub fn gatemap_set_point(file: &[u8], s: u64, t: u64, out: &mut [u8]) -> u64
     ensures buffer { out.new ≡ host_buffer file.now s t out.old }
     ensures told { result ≡ (host_table file.now s t (length out.old)).number }
 {
-    match host_answer(file, s, t, out.len()) {
-        EvaluationAnswer::Is(value) => {
-            write_value(out, value);
-            DONE
-        }
-        EvaluationAnswer::Refused(refusal) => refusal.number() as u64,
-    }
+    call_number(write_set_point(file, s, t, out))
 }
 
-// The same of a cell.
-fn host_cell(file: &[u8], cell: u8, room: usize) -> CellAnswer
-    ensures { result ≡ host_cell file.now cell room }
+// Writes a cell, or says why there is none.
+fn write_file_cell(file: &[u8], cell: u8, out: &mut [u8]) -> Result<(), Refusal>
+    ensures number { number_of result ≡ host_cell_number file.now cell out.old }
+    ensures buffer { out.new ≡ host_cell_buffer file.now cell out.old }
+    ensures told { number_of result ≡ (host_cell_table file.now cell (length out.old)).number }
 {
-    if room < CELL_BYTES {
-        return CellAnswer::Refused(Refusal::Short);
-    }
-    file_cell(file, cell)
+    has_room(out, CELL_BYTES)?;
+    let words = file_cell(file, cell)?;
+    write_cell(out, words);
+    Ok(())
 }
 
 pub fn gatemap_cell(file: &[u8], cell: u8, out: &mut [u8]) -> u64
@@ -72,23 +84,19 @@ pub fn gatemap_cell(file: &[u8], cell: u8, out: &mut [u8]) -> u64
     ensures buffer { out.new ≡ host_cell_buffer file.now cell out.old }
     ensures told { result ≡ (host_cell_table file.now cell (length out.old)).number }
 {
-    match host_cell(file, cell, out.len()) {
-        CellAnswer::Is(words) => {
-            write_cell(out, words);
-            DONE
-        }
-        CellAnswer::Refused(refusal) => refusal.number() as u64,
-    }
+    call_number(write_file_cell(file, cell, out))
 }
 
-// The same of a season.
-fn host_season(season: &[u8], minute: u32, room: usize) -> SeasonAnswer
-    ensures { result ≡ host_season season.now minute room }
+// Writes the number of a season's map at a minute, or says why there is none.
+fn write_season_map(season: &[u8], minute: u32, out: &mut [u8]) -> Result<(), Refusal>
+    ensures number { number_of result ≡ host_season_number season.now minute out.old }
+    ensures buffer { out.new ≡ host_season_buffer season.now minute out.old }
+    ensures told { number_of result ≡ (host_season_table season.now minute (length out.old)).number }
 {
-    if room < MAP_NUMBER_BYTES {
-        return SeasonAnswer::Refused(Refusal::Short);
-    }
-    season_map(season, minute)
+    has_room(out, MAP_NUMBER_BYTES)?;
+    let map = season_map(season, minute)?;
+    put_byte(out, 0, map);
+    Ok(())
 }
 
 pub fn gatemap_season(season: &[u8], minute: u32, out: &mut [u8]) -> u64
@@ -96,13 +104,7 @@ pub fn gatemap_season(season: &[u8], minute: u32, out: &mut [u8]) -> u64
     ensures buffer { out.new ≡ host_season_buffer season.now minute out.old }
     ensures told { result ≡ (host_season_table season.now minute (length out.old)).number }
 {
-    match host_season(season, minute, out.len()) {
-        SeasonAnswer::Is(map) => {
-            put_byte(out, 0, map);
-            DONE
-        }
-        SeasonAnswer::Refused(refusal) => refusal.number() as u64,
-    }
+    call_number(write_season_map(season, minute, out))
 }
 
 pub fn gatemap_load(seed: u64, edits: u64, out: &mut [u8]) -> u64
@@ -110,5 +112,5 @@ pub fn gatemap_load(seed: u64, edits: u64, out: &mut [u8]) -> u64
     ensures buffer { out.new ≡ load_buffer seed edits out.old }
     ensures told { result ≡ length_or_number (load_table seed edits (length out.old)) }
 {
-    write_load(seed, edits, out).length_or_number()
+    length_or_number(write_load(seed, edits, out))
 }

@@ -7,13 +7,15 @@ ghost use Rattle.grid.specs.Grid.{line, cell_column, cell_row, overlap, on_line,
 use ray::knots::PointKnots;
 
 // The grid's line of a number.
+#[tactic(auto, unfolding(crate::specs::Grid::line))]
 pub fn line(i: u8) -> f64
     ensures { result ≡ line i }
 {
-    i as f64 / 16.0
+    f64::from(i) / 16.0
 }
 
 // Whether the stretch from one knot to another and that from one line to another have a number in common, each without its end; the second is taken not to be empty.
+// The tests of two stretches come out either way, so `&` and not `&&` joins them here and below: no test then waits for the one before it.
 pub fn overlap(first: f64, last: f64, from: f64, to: f64) -> bool
     ensures { result ≡ overlap first last from to }
 {
@@ -32,7 +34,5 @@ fn on_line(five: [f64; 5], i: u8) -> bool
 pub fn reaches(own: PointKnots, cell: u8) -> bool
     ensures { result ≡ reaches own (cell_column cell) (cell_row cell) }
 {
-    let across = own.s;
-    let upwards = own.t;
-    on_line(across, cell % 16) & on_line(upwards, cell / 16)
+    on_line(own.s, cell % 16) & on_line(own.t, cell / 16)
 }

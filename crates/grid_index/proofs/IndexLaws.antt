@@ -1,6 +1,6 @@
 -- Laws of the index: the words of the columns and of the rows as a loop makes them, point by point; that what each column and row have in common is the index; what
 -- the cell of a byte in it is; and that it rests on the listing and on the knots of listed points alone.
-use Rattle.std.specs.Prelude.{ℕ, ◌+◌, ◌*◌, ◌%◌, ◌^◌, ◌<◌, ◌≤◌, Bool, ◌&&◌, ◌≡◌, Float, length, set}
+use Rattle.std.specs.Prelude.{ℕ, ◌+◌, ◌*◌, ◌%◌, ◌^◌, ◌<◌, ◌≤◌, Bool, ◌&&◌, ◌≡◌, Float, length, set, replicate}
 use Rattle.std.proofs.Math.Bool.{true, false}
 use mathlib.Core.List.{List}
 use Rattle.std.proofs.Math.Path.{refl, sym, ap, ap₂}
@@ -78,40 +78,39 @@ pub record LinesTo (listed : List Bool) (knots : List PointKnots) (start count :
   pub columns_are : columns ≡ values_from (stretch_word knots_across listed knots count start) 16 0
   pub rows_are : rows ≡ values_from (stretch_word knots_upwards listed knots count start) 16 0
 
-module _ (listed : List Bool) (knots : List PointKnots) (start : ℕ) where
-  pub lines_none : LinesTo listed knots start 0 (values_from (λ (i : ℕ). 0) 16 0) (values_from (λ (i : ℕ). 0) 16 0)
-  unfolding word_from
-  lines_none = record { columns_are = refl; rows_are = refl }
+pub lines_none : (listed : List Bool) (knots : List PointKnots) (start : ℕ) → LinesTo listed knots start 0 (replicate 16 0) (replicate 16 0)
+unfolding values_from word_from
+lines_none listed knots start = record { columns_are = refl; rows_are = refl }
 
-  module _ (count : ℕ) (columns rows : List ℕ) (lines : LinesTo listed knots start count columns rows) where
-    pub lines_full : (length columns ≡ 16) × (length rows ≡ 16)
-    lines_full = (
-      ap length lines.columns_are ∙ values_length (stretch_word knots_across listed knots count start) 16 0,
-      ap length lines.rows_are ∙ values_length (stretch_word knots_upwards listed knots count start) 16 0,
-    )
+module _ {listed : List Bool} {knots : List PointKnots} {start count : ℕ} {columns rows : List ℕ} (lines : LinesTo listed knots start count columns rows) where
+  pub lines_full : (length columns ≡ 16) × (length rows ≡ 16)
+  lines_full = (
+    ap length lines.columns_are ∙ values_length (stretch_word knots_across listed knots count start) 16 0,
+    ap length lines.rows_are ∙ values_length (stretch_word knots_upwards listed knots count start) 16 0,
+  )
 
-    -- a point that is listed, and marked
-    pub lines_marked : (n : ℕ) (columns' rows' : List ℕ)
-        → n ≡ start + count
-        → count < 64
-        → get_or listed n false ≡ true
-        → columns' ≡ values_from (marked_at columns (1 * 2 ^ count % 2 ^ 64) (first_knot (knots_in knots n).s) (last_knot (knots_in knots n).s)) 16 0
-        → rows' ≡ values_from (marked_at rows (1 * 2 ^ count % 2 ^ 64) (first_knot (knots_in knots n).t) (last_knot (knots_in knots n).t)) 16 0
-        → LinesTo listed knots start (count + 1) columns' rows'
-    lines_marked n columns' rows' e h is across upwards =
-        record {
-          columns_are = stretch_marked knots_across listed knots start count n e columns columns' h is lines.columns_are across;
-          rows_are = stretch_marked knots_upwards listed knots start count n e rows rows' h is lines.rows_are upwards;
-        }
+  -- a point that is listed, and marked
+  pub lines_marked : (n : ℕ) (columns' rows' : List ℕ)
+      → n ≡ start + count
+      → count < 64
+      → get_or listed n false ≡ true
+      → columns' ≡ values_from (marked_at columns (1 * 2 ^ count % 2 ^ 64) (first_knot (knots_in knots n).s) (last_knot (knots_in knots n).s)) 16 0
+      → rows' ≡ values_from (marked_at rows (1 * 2 ^ count % 2 ^ 64) (first_knot (knots_in knots n).t) (last_knot (knots_in knots n).t)) 16 0
+      → LinesTo listed knots start (count + 1) columns' rows'
+  lines_marked n columns' rows' e h is across upwards =
+      record {
+        columns_are = stretch_marked knots_across listed knots start count n e columns columns' h is lines.columns_are across;
+        rows_are = stretch_marked knots_upwards listed knots start count n e rows rows' h is lines.rows_are upwards;
+      }
 
-    -- a point that is not listed
-    pub lines_passed : (n : ℕ) (columns' rows' : List ℕ) → n ≡ start + count → get_or listed n false ≡ false → columns' ≡ columns → rows' ≡ rows
-        → LinesTo listed knots start (count + 1) columns' rows'
-    lines_passed n columns' rows' e is across upwards =
-        record {
-          columns_are = across ∙ lines.columns_are ∙ stretch_passed knots_across listed knots start count n e is;
-          rows_are = upwards ∙ lines.rows_are ∙ stretch_passed knots_upwards listed knots start count n e is;
-        }
+  -- a point that is not listed
+  pub lines_passed : (n : ℕ) (columns' rows' : List ℕ) → n ≡ start + count → get_or listed n false ≡ false → columns' ≡ columns → rows' ≡ rows
+      → LinesTo listed knots start (count + 1) columns' rows'
+  lines_passed n columns' rows' e is across upwards =
+      record {
+        columns_are = across ∙ lines.columns_are ∙ stretch_passed knots_across listed knots start count n e is;
+        rows_are = upwards ∙ lines.rows_are ∙ stretch_passed knots_upwards listed knots start count n e is;
+      }
 
 -- ---- the words of the cells
 -- with one more, in the next column of a row
@@ -125,6 +124,10 @@ cells_more columns rows words row column h k so_far =
     (stored_more (both_word columns rows) 0 256 (row * 16 + column) words _ (omega (arith, h, k))
     (ap (set words (row * 16 + column))
     (ap₂ (λ (c r : ℕ). bit_and (get_or columns c 0) (get_or rows r 0)) (omega (arith, k)) (omega (arith, k)))) so_far)
+
+-- all of them, where every row has had its turn
+pub cells_all : (columns rows words : List ℕ) (row : ℕ) → row ≡ 16 → StoredTo (both_word columns rows) 0 256 (row * 16) words → words ≡ values_from (both_word columns rows) 256 0
+cells_all columns rows words row e so_far = stored_all (both_word columns rows) 0 256 (row * 16) words (omega (arith, e)) so_far
 
 -- the test of a listed point and a cell is that of the cell's column and that of its row
 both_ways : (listed column row : Bool) → ((listed && column) && (listed && row)) ≡ (listed && (column && row))
@@ -151,15 +154,19 @@ module _ (listed : List Bool) (knots : List PointKnots) where
       ∙ cell_word start cell)
 
   -- THE INDEX, made of them
-  pub index_built : (columns rows later-columns later_rows first second : List ℕ)
-      → LinesTo listed knots 0 64 columns rows
-      → LinesTo listed knots 64 64 later-columns later_rows
+  pub index_built : (count : ℕ) (columns rows later-columns later_rows first second : List ℕ)
+      → count ≡ 64
+      → LinesTo listed knots 0 count columns rows
+      → LinesTo listed knots 64 count later-columns later_rows
       → first ≡ values_from (both_word columns rows) 256 0
       → second ≡ values_from (both_word later-columns later_rows) 256 0
       → record { first = first; second = second } ≡ index_of listed knots
   unfolding index_of
-  index_built columns rows later-columns later_rows first second lines later e f =
-      rw (e ∙ words_built 0 columns rows lines, f ∙ words_built 64 later-columns later_rows later)
+  index_built count columns rows later-columns later_rows first second whole lines later e f =
+      rw (
+        e ∙ words_built 0 columns rows (subst (λ (count : ℕ). LinesTo listed knots 0 count columns rows) whole lines),
+        f ∙ words_built 64 later-columns later_rows (subst (λ (count : ℕ). LinesTo listed knots 64 count later-columns later_rows) whole later),
+      )
 
   -- THE CELL of a byte in it
   pub cell_is : (cell : ℕ) → cell < 256 → cell_of (index_of listed knots) cell ≡ counted (first_word listed knots cell) (second_word listed knots cell)

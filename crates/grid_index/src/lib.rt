@@ -33,15 +33,14 @@ pub fn marked(word: u64, bit: u64, test: bool) -> u64
 }
 
 // Sets a bit in the words of 16 lines: in that of each line for which the stretch between two knots and the one from the line to the next have a number in common.
+#[tactic(auto, using(crate::proofs::IndexLaws::marked_all))]
 fn mark(words: &mut [u64; 16], bit: u64, first: f64, last: f64)
     requires { length words.old ≡ 16 }
     ensures { words.new ≡ values_from (marked_at words.old bit first last) 16 0 }
 {
-    let mut i: u8 = 0;
-    while i < 16 {
+    for i in 0..16u8 {
         let test = overlap(first, last, line(i), line(i + 1));
-        words[i as usize] = marked(words[i as usize], bit, test);
-        i += 1;
+        words[usize::from(i)] = marked(words[usize::from(i)], bit, test);
     }
 }
 
@@ -50,26 +49,21 @@ fn mark_point(columns: &mut [u64; 16], rows: &mut [u64; 16], bit: u64, own: Poin
     requires { (length columns.old ≡ 16) × (length rows.old ≡ 16) }
     ensures { (columns.new ≡ values_from (marked_at columns.old bit (first_knot own.s) (last_knot own.s)) 16 0) × (rows.new ≡ values_from (marked_at rows.old bit (first_knot own.t) (last_knot own.t)) 16 0) }
 {
-    let across = own.s;
-    let upwards = own.t;
-    mark(columns, bit, across[0], across[4]);
-    mark(rows, bit, upwards[0], upwards[4]);
+    mark(columns, bit, own.s[0], own.s[4]);
+    mark(rows, bit, own.t[0], own.t[4]);
 }
 
 // The word of each cell: what the words of its column and of its row have in common.
-fn cell_words<'a>(words: &mut [u64; 256], columns: &'a [u64; 16], rows: &'a [u64; 16])
+#[tactic(auto, using(crate::proofs::IndexLaws::cells_all))]
+fn cell_words(words: &mut [u64; 256], columns: &[u64; 16], rows: &[u64; 16])
     requires { length words.old ≡ 256 }
     ensures { words.new ≡ values_from (both_word columns.now rows.now) 256 0 }
 {
-    let mut row: usize = 0;
-    while row < 16 {
+    for row in 0..16 {
         let word = rows[row];
-        let mut column: usize = 0;
-        while column < 16 {
+        for column in 0..16 {
             words[row * 16 + column] = columns[column] & word;
-            column += 1;
         }
-        row += 1;
     }
 }
 
@@ -81,8 +75,7 @@ pub fn index_of(listed: [bool; 128], knots: [PointKnots; 128]) -> Index
     let mut rows = [0u64; 16];
     let mut later_columns = [0u64; 16];
     let mut later_rows = [0u64; 16];
-    let mut i: usize = 0;
-    while i < 64 {
+    for i in 0..64 {
         let bit = 1u64 << i;
         if listed[i] {
             mark_point(&mut columns, &mut rows, bit, knots[i]);
@@ -90,7 +83,6 @@ pub fn index_of(listed: [bool; 128], knots: [PointKnots; 128]) -> Index
         if listed[64 + i] {
             mark_point(&mut later_columns, &mut later_rows, bit, knots[64 + i]);
         }
-        i += 1;
     }
     let mut first = [0u64; 256];
     let mut second = [0u64; 256];
@@ -106,7 +98,7 @@ pub fn counted(first: u64, second: u64) -> Cell
     Cell {
         first,
         second,
-        count: (u64::count_ones(first) + u64::count_ones(second)) as u8,
+        count: (first.count_ones() + second.count_ones()) as u8,
     }
 }
 
@@ -114,5 +106,6 @@ pub fn counted(first: u64, second: u64) -> Cell
 pub fn cell_of(index: Index, cell: u8) -> Cell
     ensures { result ≡ cell_of index cell }
 {
-    counted(index.first[cell as usize], index.second[cell as usize])
+    let at = usize::from(cell);
+    counted(index.first[at], index.second[at])
 }

@@ -1,6 +1,6 @@
 -- Laws of insertion. Refused, it leaves the store as it was. In a store with room for 128 points the two connections that place p succeed,
 -- and so does that of an inferred link; the store after each is a linking.
-use Rattle.std.specs.Prelude.{ℕ, ◌<◌, ◌+◌, ◌≡◌, Bool, ◌&&◌, ◌||◌, eqb, Float, length}
+use Rattle.std.specs.Prelude.{ℕ, ◌<◌, ◌+◌, ◌≡◌, Bool, ◌&&◌, ◌||◌, eqb, Float, length, Err, None, Ok, Option, Result, Some, ⊤}
 use Rattle.std.proofs.Math.Path.{refl, ap}
 use Rattle.std.proofs.Common.{sym, ◌∙◌, arith, lit<, length-set}
 use Rattle.std.proofs.Math.Bool.{true, false, cond}
@@ -12,23 +12,19 @@ use Rattle.float64.specs.Unit.{in_unit}
 use Rattle.control_point.specs.Connect.{connectable}
 use Rattle.control_point.specs.Direction.{clockwise_of, anti_clockwise_of, flip_of, same_direction}
 use Rattle.control_point.proofs.DirectionLaws.{same_self}
-use Rattle.control_point.specs.Point.{side_of, with_side, is_made, is_opening}
+use Rattle.control_point.specs.Point.{side_of, with_side, is_made, is_opening, link_end}
 use Rattle.control_point.proofs.PointLaws.{is_made_made, is_made_room, made_is_made}
 use Rattle.control_point.specs.Sides.{Sides, side_at, sides_with, sides_with_point}
 use Rattle.control_point.proofs.SidesLaws.{Agree}
 use Rattle.control_point.specs.Small.{small}
-use Rattle.control_point.specs.declared.refusal.Outcome.TheVariants.{Done as Connected, Refused as NotConnected}
 use Rattle.control_point.specs.declared.refusal.Refusal.{Refusal}
 use Rattle.control_point.specs.declared.refusal.Refusal.TheVariants.{NoPoint, Itself, Taken, Ratio, Foreign, Interval, Full}
-use Rattle.control_point.specs.declared.sides.SideAnswer.TheVariants.{Is, Refused as NoSide}
 use Rattle.control_point.specs.declared.t_mesh_control_point.Side.{Side}
 use Rattle.control_point.specs.declared.t_mesh_control_point.Side.TheVariants.{Link, Border, Opening}
 use Rattle.control_point.specs.declared.t_mesh_direction.TmeshDirection.{TmeshDirection}
 use Rattle.control_point.specs.declared.t_mesh_direction.TmeshDirection.TheVariants.{Up, Right, Down, Left}
 use Rattle.search.specs.Search.{find_inferred_connection}
 use Rattle.search.proofs.SearchLaws.{MayConnect, found_connects}
-use Rattle.search.specs.declared.search.Found.{Found}
-use Rattle.search.specs.declared.search.Found.TheVariants.{At, Nothing, Failed}
 use Rattle.store.specs.Store.{store_sides, store_point, with_side_at, linked, done, connect_points}
 use Rattle.store.proofs.StoreLaws.{room_kept, sides_side, sides_new, sides_linked}
 use Rattle.store.specs.declared.store.Changed.{Changed}
@@ -36,34 +32,32 @@ use Rattle.store.specs.declared.store.Store.{Store}
 use Rattle.insertion.specs.Insert.{checked_intervals, checked_facing, checked_side, checked, checked_link, cut, point_in_line, parted, near_joined, far_joined, placed, sought_side, border_or, new_side, with_new_side, tears, unless_torn, opened_count, inferred_count, counted_answer, first_side, with_first, second_side, sided, passed, insert_point}
 use Rattle.insertion.specs.declared.insertion.NewSide.{NewSide}
 use Rattle.insertion.specs.declared.insertion.NewSide.TheVariants.{Takes, Joins, Opens, Tears, Stays}
-use Rattle.insertion.specs.declared.insertion.Checked.{Checked}
-use Rattle.insertion.specs.declared.insertion.Checked.TheVariants.{Passed, Refused as NotPassed}
-use Rattle.insertion.specs.declared.insertion.InsertAnswer.TheVariants.{Refused}
 use Rattle.insertion.specs.declared.insertion.Inserted.{Inserted}
+use Rattle.control_point.specs.declared.t_mesh_control_point.LinkEnd.{LinkEnd}
 
 -- ---- connecting
 -- points that may be connected are linked
-connected : (store : Store) (first other : ℕ) (d : TmeshDirection) (interval : Float) → connectable (store_sides store) store.made first other d ≡ Connected
+connected : (store : Store) (first other : ℕ) (d : TmeshDirection) (interval : Float) → connectable (store_sides store) store.made first other d ≡ Ok tt
     → connect_points store first other d interval ≡ done (linked store first other d interval)
 unfolding connect_points
 connected store first other d interval h = simp h
 
 module _ (sides : Sides) (made first other : ℕ) (d : TmeshDirection) where
   connectable_done : is_made made first ≡ true → is_made made other ≡ true → (first ≡ other → ⊥) → sides first d ≡ Opening → sides other (flip_of d) ≡ Opening
-      → connectable sides made first other d ≡ Connected
+      → connectable sides made first other d ≡ Ok tt
   unfolding connectable
   connectable_done f o apart x y = simp (f, o, ne_eqb first other apart, x, y)
 
-  refused_not : {A : Type 0} (refusal : Refusal) → NotConnected refusal ≡ Connected → A
+  refused_not : {A : Type 0} (refusal : Refusal) → ◌≡◌ {A = Result ⊤ Refusal} (Err refusal) (Ok tt) → A
   refused_not refusal h = let z : ◌≡◌ {A = ℕ} 0 1 = cc in absurd (omega arith)
 
   -- the other point is made, and is not the first
-  pub connectable_other : connectable sides made first other d ≡ Connected → (is_made made other ≡ true) × (eqb first other ≡ false)
+  pub connectable_other : connectable sides made first other d ≡ Ok tt → (is_made made other ≡ true) × (eqb first other ≡ false)
   unfolding connectable
   connectable_other h = by_tests (is_made made first) (is_made made other) (eqb first other) h
     where
       by_tests : (a b c : Bool)
-          → cond (a && b) (cond c (NotConnected Itself) (cond (is_opening (sides first d) && is_opening (sides other (flip_of d))) Connected (NotConnected Taken))) (NotConnected NoPoint) ≡ Connected
+          → ◌≡◌ {A = Result ⊤ Refusal} (cond (a && b) (cond c (Err Itself) (cond (is_opening (sides first d) && is_opening (sides other (flip_of d))) (Ok tt) (Err Taken))) (Err NoPoint)) (Ok tt)
           → (b ≡ true) × (c ≡ false)
       by_tests true true false g = (refl, refl)
       by_tests true true true g = refused_not Itself g
@@ -73,16 +67,16 @@ module _ (sides : Sides) (made first other : ℕ) (d : TmeshDirection) where
 -- ---- a new side: where p joins a point, the two may be connected
 abbrev pub MayJoin : Sides → ℕ → ℕ → TmeshDirection → NewSide → Type 0
 MayJoin sides made p f (Takes weight) = Unit {0}
-MayJoin sides made p f (Joins n interval) = connectable (sides_with sides p f Opening) made p n f ≡ Connected
+MayJoin sides made p f (Joins n interval) = connectable (sides_with sides p f Opening) made p n f ≡ Ok tt
 MayJoin sides made p f Opens = Unit {0}
 MayJoin sides made p f Tears = Unit {0}
 MayJoin sides made p f Stays = Unit {0}
 
 module _ (sides : Sides) (made p : ℕ) (f : TmeshDirection) where
-  found_joins : (found : Found) → MayConnect (sides_with sides p f Opening) made p f found → MayJoin sides made p f (sought_side found)
-  found_joins (At n interval) h = h
-  found_joins Nothing h = tt
-  found_joins (Failed refusal) h = tt
+  found_joins : (found : Result (Option LinkEnd) Refusal) → MayConnect (sides_with sides p f Opening) made p f found → MayJoin sides made p f (sought_side found)
+  found_joins (Ok (Some end)) h = h
+  found_joins (Ok None) h = tt
+  found_joins (Err refusal) h = tt
 
   border_joins : (side : Side) (new : NewSide) → MayJoin sides made p f new → MayJoin sides made p f (border_or side new)
   border_joins (Border weight) new h = tt
@@ -113,7 +107,7 @@ module _ (store : Store) (room : length store.points ≡ 128) (p : ℕ) (h : p <
   sides_opened_lem = sides_side store room p h f Opening
 
   -- where p joins a point, it is connected to it
-  module _ (n : ℕ) (interval : Float) (j : connectable (sides_with (store_sides store) p f Opening) store.made p n f ≡ Connected) where
+  module _ (n : ℕ) (interval : Float) (j : connectable (sides_with (store_sides store) p f Opening) store.made p n f ≡ Ok tt) where
     pub joined_linked : connect_points opened_at p n f interval ≡ done (linked opened_at p n f interval)
     joined_linked = connected opened_at p n f interval (ap (λ (sides : Sides). connectable sides store.made p n f) sides_opened_lem ∙ j)
 
@@ -275,8 +269,8 @@ module _ (made : ℕ) (sides others : Sides) (agree : Agree made sides others) w
   side_agrees : (n : ℕ) (d : TmeshDirection) → side_at sides made n d ≡ side_at others made n d
   side_agrees n d = by_test (is_made made n) refl
     where
-      by_test : (b : Bool) → is_made made n ≡ b → cond b (Is (sides n d)) (NoSide NoPoint) ≡ cond b (Is (others n d)) (NoSide NoPoint)
-      by_test true h = ap Is (agree n d h)
+      by_test : (b : Bool) → is_made made n ≡ b → cond b (Ok (sides n d)) (Err NoPoint) ≡ cond b (Ok (others n d)) (Err NoPoint)
+      by_test true h = ap Ok (agree n d h)
       by_test false h = refl
 
   pub checked_agrees : (e ratio : Float) (listed : Bool) (con : ℕ) (d : TmeshDirection) → checked_link e ratio listed sides made con d ≡ checked_link e ratio listed others made con d
@@ -288,82 +282,82 @@ pub record Passing (made con other : ℕ) : Type 0 where
   pub other_made : is_made made other ≡ true
   pub roomy : made < 128
 
-module _ (e ratio : Float) (listed : Bool) (made con : ℕ) (other : ℕ) (interval : Float) where
-  refused_passes : {A : Type 0} (refusal : Refusal) → NotPassed refusal ≡ Passed other interval → A
+module _ (e ratio : Float) (listed : Bool) (made con : ℕ) (end : LinkEnd) where
+  refused_passes : {A : Type 0} (refusal : Refusal) → ◌≡◌ {A = Result LinkEnd Refusal} (Err refusal) (Ok end) → A
   refused_passes refusal h = let z : ◌≡◌ {A = ℕ} 0 1 = cc in absurd (omega arith)
 
-  same_other : (n : ℕ) (k : Float) → Passed n k ≡ Passed other interval → n ≡ other
-  same_other n k h = cc
+  same_other : (n : ℕ) (k : Float) → ◌≡◌ {A = Result LinkEnd Refusal} (Ok (link_end n k)) (Ok end) → n ≡ end.point
+  same_other n k h = let same : link_end n k ≡ end = cc in ap (λ (x : LinkEnd). x.point) same
 
-  intervals_pass : (n : ℕ) (k facing : Float) → checked_intervals e made n k facing ≡ Passed other interval → (n ≡ other) × (made < 128)
+  intervals_pass : (n : ℕ) (k facing : Float) → checked_intervals e made n k facing ≡ Ok end → (n ≡ end.point) × (made < 128)
   unfolding checked_intervals
   intervals_pass n k facing h = by_tests (small e (sub binary64 k facing)) (ltb made 128) refl h
     where
-      by_tests : (a b : Bool) → ltb made 128 ≡ b → cond a (cond b (Passed n k) (NotPassed Full)) (NotPassed Interval) ≡ Passed other interval → (n ≡ other) × (made < 128)
+      by_tests : (a b : Bool) → ltb made 128 ≡ b → cond a (cond b (Ok (link_end n k)) (Err Full)) (Err Interval) ≡ Ok end → (n ≡ end.point) × (made < 128)
       by_tests true true t g = (same_other n k g, ltb-true made 128 t)
       by_tests true false t g = refused_passes Full g
       by_tests false b t g = refused_passes Interval g
 
-  facing_passes : (n : ℕ) (k : Float) (side : Side) → checked_facing e made n k (Is side) ≡ Passed other interval → (n ≡ other) × (made < 128)
+  facing_passes : (n : ℕ) (k : Float) (side : Side) → checked_facing e made n k (Ok side) ≡ Ok end → (n ≡ end.point) × (made < 128)
   facing_passes n k (Link m facing) h = intervals_pass n k facing h
   facing_passes n k (Border weight) h = intervals_pass n k weight h
   facing_passes n k Opening h = refused_passes _ h
 
-  made_passes : (n : ℕ) (k : Float) (facing : Side) (b : Bool) → is_made made n ≡ b → checked_facing e made n k (cond b (Is facing) (NoSide NoPoint)) ≡ Passed other interval
-      → (is_made made other ≡ true) × (made < 128)
+  made_passes : (n : ℕ) (k : Float) (facing : Side) (b : Bool) → is_made made n ≡ b → checked_facing e made n k (cond b (Ok facing) (Err NoPoint)) ≡ Ok end
+      → (is_made made end.point ≡ true) × (made < 128)
   made_passes n k facing true t h = (ap (is_made made) (sym (facing_passes n k facing h).0) ∙ t, (facing_passes n k facing h).1)
   made_passes n k facing false t h = refused_passes NoPoint h
 
   module _ (sides : Sides) (d : TmeshDirection) where
-    side_passes : (side : Side) (b : Bool) → is_made made con ≡ b → checked_side e made (cond b (Is side) (NoSide NoPoint)) (λ n. side_at sides made n (flip_of d)) ≡ Passed other interval → Passing made con other
+    side_passes : (side : Side) (b : Bool) → is_made made con ≡ b → checked_side e made (cond b (Ok side) (Err NoPoint)) (λ n. side_at sides made n (flip_of d)) ≡ Ok end → Passing made con end.point
     side_passes (Link n k) true t h = let w = made_passes n k (sides n (flip_of d)) (is_made made n) refl h in record { con_made = t; other_made = w.0; roomy = w.1 }
     side_passes (Border weight) true t h = refused_passes _ h
     side_passes Opening true t h = refused_passes _ h
     side_passes side false t h = refused_passes NoPoint h
 
-    pub checked_passes : checked_link e ratio listed sides made con d ≡ Passed other interval → Passing made con other
+    pub checked_passes : checked_link e ratio listed sides made con d ≡ Ok end → Passing made con end.point
     unfolding checked
     checked_passes h = by_tests (in_unit ratio) listed h
       where
-        by_tests : (a b : Bool) → cond a (cond b (checked_side e made (side_at sides made con d) (λ n. side_at sides made n (flip_of d))) (NotPassed Foreign)) (NotPassed Ratio) ≡ Passed other interval → Passing made con other
+        by_tests : (a b : Bool) → cond a (cond b (checked_side e made (side_at sides made con d) (λ n. side_at sides made n (flip_of d))) (Err Foreign)) (Err Ratio) ≡ Ok end → Passing made con end.point
         by_tests true true g = side_passes (sides con d) (is_made made con) refl g
         by_tests true false g = refused_passes Foreign g
         by_tests false b g = refused_passes Ratio g
 
 -- the call, by what the checks give
 module _ (e : Float) (store : Store) (listed : Bool) (con : ℕ) (d : TmeshDirection) (ratio : Float) where
-  abbrev pub checked_call : Checked
+  abbrev pub checked_call : Result LinkEnd Refusal
   checked_call = checked_link e ratio listed (store_sides store) store.made con d
 
-  pub insert_passed : (other : ℕ) (interval : Float) → checked_call ≡ Passed other interval
-      → insert_point e store listed con d ratio ≡ sided e (placed store con other d interval ratio) con store.made d
+  pub insert_passed : (end : LinkEnd) → checked_call ≡ Ok end
+      → insert_point e store listed con d ratio ≡ sided e (placed store con end.point d end.interval ratio) con store.made d
   unfolding insert_point
-  insert_passed other interval h = rw h
+  insert_passed end h = rw h
 
-  pub insert_refused : (refusal : Refusal) → checked_call ≡ NotPassed refusal → insert_point e store listed con d ratio ≡ record { answer = Refused refusal; store = store }
+  pub insert_refused : (refusal : Refusal) → checked_call ≡ Err refusal → insert_point e store listed con d ratio ≡ record { answer = Err refusal; store = store }
   unfolding insert_point
   insert_refused refusal h = rw h
 
 -- ---- REFUSED, THE STORE IS THE SAME
-counted_not : (torn : Bool) (opened inferred : ℕ) (refusal : Refusal) → counted_answer torn opened inferred ≡ Refused refusal → ⊥
+counted_not : (torn : Bool) (opened inferred : ℕ) (refusal : Refusal) → counted_answer torn opened inferred ≡ Err refusal → ⊥
 counted_not true opened inferred refusal g = let z : ◌≡◌ {A = ℕ} 0 1 = cc in omega arith
 counted_not false opened inferred refusal g = let z : ◌≡◌ {A = ℕ} 0 1 = cc in omega arith
 
-sided_answers : (e : Float) (store : Store) (con p : ℕ) (d : TmeshDirection) (refusal : Refusal) → (sided e store con p d).answer ≡ Refused refusal → ⊥
+sided_answers : (e : Float) (store : Store) (con p : ℕ) (d : TmeshDirection) (refusal : Refusal) → (sided e store con p d).answer ≡ Err refusal → ⊥
 unfolding sided
 sided_answers e store con p d refusal = counted_not (tears (first_side e store con p d) || tears (second_side e store con p d)) _ _ refusal
 
 pub refused_same : (e : Float) (store : Store) (listed : Bool) (con : ℕ) (d : TmeshDirection) (ratio : Float) (refusal : Refusal)
-    → (insert_point e store listed con d ratio).answer ≡ Refused refusal → (insert_point e store listed con d ratio).store ≡ store
+    → (insert_point e store listed con d ratio).answer ≡ Err refusal → (insert_point e store listed con d ratio).store ≡ store
 unfolding insert_point
 refused_same e store listed con d ratio refusal = by_checks (checked_call e store listed con d ratio)
   where
     next : ℕ → Float → Inserted
     next other interval = sided e (placed store con other d interval ratio) con store.made d
 
-    by_checks : (c : Checked) → (passed store c next).answer ≡ Refused refusal → (passed store c next).store ≡ store
-    by_checks (NotPassed met) h = refl
-    by_checks (Passed other interval) h = absurd (sided_answers e (placed store con other d interval ratio) con store.made d refusal h)
+    by_checks : (c : Result LinkEnd Refusal) → (passed store c next).answer ≡ Err refusal → (passed store c next).store ≡ store
+    by_checks (Err met) h = refl
+    by_checks (Ok end) h = absurd (sided_answers e (placed store con end.point d end.interval ratio) con store.made d refusal h)
 
 -- ---- a side counts at most once
 pub opened_few : (side : NewSide) → opened_count side < 2

@@ -1,5 +1,5 @@
 -- Laws of insertion into lent points: they hold the store's points as p is placed and gets its sides, and what is read of them is what the store says.
-use Rattle.std.specs.Prelude.{ℕ, ◌<◌, ◌+◌, ◌≡◌, Bool, true, List, Float, length}
+use Rattle.std.specs.Prelude.{ℕ, ◌<◌, ◌+◌, ◌≡◌, Bool, true, List, Float, length, Err, Ok, Result}
 use Rattle.std.proofs.Math.Path.{refl, ap, subst}
 use Rattle.std.proofs.Common.{sym, ◌∙◌, arith}
 use Rattle.std.specs.Float.Ieee.{binary64, mul, sub}
@@ -24,10 +24,9 @@ use Rattle.insertion.proofs.InsertLaws.{MayJoin, connectable_other, joined_linke
 use Rattle.insertion.specs.Lent.{points_parted, points_placed, points_with_new, Inserts}
 use Rattle.insertion.specs.declared.insertion.NewSide.{NewSide}
 use Rattle.insertion.specs.declared.insertion.NewSide.TheVariants.{Takes, Joins, Opens, Tears, Stays}
-use Rattle.insertion.specs.declared.insertion.Checked.{Checked}
-use Rattle.insertion.specs.declared.insertion.Checked.TheVariants.{Passed, Refused as NotPassed}
-use Rattle.insertion.specs.declared.insertion.InsertAnswer.TheVariants.{Refused}
 use Rattle.insertion.specs.declared.insertion.Inserted.{Inserted}
+use Rattle.insertion.specs.declared.insertion.Insertion.{Insertion}
+use Rattle.control_point.specs.declared.t_mesh_control_point.LinkEnd.{LinkEnd}
 
 -- ---- a new side, asked of sides that agree on all made numbers
 pub new_agrees : (e : Float) (made con p : ℕ) → is_made made con ≡ true → (sides others : Sides) → Agree made sides others → (f : TmeshDirection) → new_side e sides made con p f ≡ new_side e others made con p f
@@ -81,12 +80,13 @@ module _ (e ratio : Float) (listed : Bool) (con : ℕ) (d : TmeshDirection) (sid
   checked_held : (rest : List TmeshControlPoint) (store : Store) → Held points rest store → checked_link e ratio listed sides store.made con d ≡ checked_link e ratio listed (store_sides store) store.made con d
   checked_held rest store held = checked_agrees store.made sides (store_sides store) (held_agree sides coordinates rest store held) e ratio listed con d
 
-  pub inserts_refused : (made : ℕ) (refusal : Refusal) → checked_link e ratio listed sides made con d ≡ NotPassed refusal → Inserts e points made listed con d ratio (Refused refusal) points
-  inserts_refused made refusal refused rest store held is =
+  pub inserts_refused : (made : ℕ) (refusal : Refusal) (answer : Result Insertion Refusal) → checked_link e ratio listed sides made con d ≡ Err refusal → answer ≡ Err refusal
+      → Inserts e points made listed con d ratio answer points
+  inserts_refused made refusal answer refused answered rest store held is =
       let same =
       insert_refused e store listed con d ratio refusal
       (sym (checked_held rest store held) ∙ ap (λ (m : ℕ). checked_link e ratio listed sides m con d) is ∙ refused) in
-      (ap (λ (x : Inserted). x.answer) (sym same), subst (λ (x : Inserted). Held points rest x.store) (sym same) held)
+      (answered ∙ ap (λ (x : Inserted). x.answer) (sym same), subst (λ (x : Inserted). Held points rest x.store) (sym same) held)
 
 -- ---- the call, passed: p placed, its first side, and its second, unless the first was torn
 pub record Crossed (e : Float) (points : Points) (made con other : ℕ) (d : TmeshDirection) (interval ratio : Float) (first second : NewSide) (after : Points) : Type 0 where
@@ -160,16 +160,16 @@ module _ (e : Float) (points after : Points) (rest : List TmeshControlPoint) (st
         (held_new_side half held_half p (ap (λ (m : ℕ). is_made m p) made_half ∙ now_made p (omega arith)) (anti_clockwise_of d) (second_side e before con p d) (second_joins e before held_before.room con p roomy d)),
   )
 
-pub inserts_passed : (e ratio : Float) (listed : Bool) (con other : ℕ) (d : TmeshDirection) (sides : Sides) (coordinates : List Float) (made : ℕ) (interval : Float) (first second : NewSide) (after : Points)
-    → checked_link e ratio listed sides made con d ≡ Passed other interval
-    → Crossed e (points_from sides coordinates) made con other d interval ratio first second after
+pub inserts_passed : (e ratio : Float) (listed : Bool) (con : ℕ) (end : LinkEnd) (d : TmeshDirection) (sides : Sides) (coordinates : List Float) (made : ℕ) (first second : NewSide) (after : Points)
+    → checked_link e ratio listed sides made con d ≡ Ok end
+    → Crossed e (points_from sides coordinates) made con end.point d end.interval ratio first second after
     → Inserts e (points_from sides coordinates) made listed con d ratio (answer_of first second) after
-inserts_passed e ratio listed con other d sides coordinates made interval first second after passes crossed rest store held is =
-    let passes-here : checked_link e ratio listed sides store.made con d ≡ Passed other interval = ap (λ (m : ℕ). checked_link e ratio listed sides m con d) is ∙ passes in
-    let w = checked_passes e ratio listed store.made con other interval sides d passes-here in
-    let crossed-here = subst (λ (m : ℕ). Crossed e (points_from sides coordinates) m con other d interval ratio first second after) (sym is) crossed in
-    let same = insert_passed e store listed con d ratio other interval (sym (checked_held e ratio listed con d sides coordinates rest store held) ∙ passes-here) in
-    let s = sided_held e (points_from sides coordinates) after rest store held con other w.con_made w.other_made w.roomy d interval ratio first second crossed-here in
+inserts_passed e ratio listed con end d sides coordinates made first second after passes crossed rest store held is =
+    let passes-here : checked_link e ratio listed sides store.made con d ≡ Ok end = ap (λ (m : ℕ). checked_link e ratio listed sides m con d) is ∙ passes in
+    let w = checked_passes e ratio listed store.made con end sides d passes-here in
+    let crossed-here = subst (λ (m : ℕ). Crossed e (points_from sides coordinates) m con end.point d end.interval ratio first second after) (sym is) crossed in
+    let same = insert_passed e store listed con d ratio end (sym (checked_held e ratio listed con d sides coordinates rest store held) ∙ passes-here) in
+    let s = sided_held e (points_from sides coordinates) after rest store held con end.point w.con_made w.other_made w.roomy d end.interval ratio first second crossed-here in
     (s.0 ∙ ap (λ (x : Inserted). x.answer) (sym same), subst (λ (x : Inserted). Held after rest x.store) (sym same) s.1)
 
 -- ---- not refused, one point more is made, for which there was room
@@ -180,17 +180,17 @@ sided_made e store room con p h d =
     ∙ made_first e store room con p h d
 
 pub inserted_made : (e : Float) (store : Store) → length store.points ≡ 128 → (listed : Bool) (con : ℕ) (d : TmeshDirection) (ratio : Float)
-    → ((refusal : Refusal) → (insert_point e store listed con d ratio).answer ≡ Refused refusal → ⊥)
+    → ((refusal : Refusal) → (insert_point e store listed con d ratio).answer ≡ Err refusal → ⊥)
     → (store.made < 128) × ((insert_point e store listed con d ratio).store.made ≡ store.made + 1)
 inserted_made e store room listed con d ratio stands = by_checks (checked_call e store listed con d ratio) refl
   where
-    by_checks : (c : Checked) → checked_call e store listed con d ratio ≡ c → (store.made < 128) × ((insert_point e store listed con d ratio).store.made ≡ store.made + 1)
-    by_checks (NotPassed refusal) h = absurd (stands refusal (ap (λ (x : Inserted). x.answer) (insert_refused e store listed con d ratio refusal h)))
-    by_checks (Passed other interval) h =
-        let w = checked_passes e ratio listed store.made con other interval (store_sides store) d h in
-        let same = placed_linked store room w.roomy con other w.con_made w.other_made d interval ratio in (
+    by_checks : (c : Result LinkEnd Refusal) → checked_call e store listed con d ratio ≡ c → (store.made < 128) × ((insert_point e store listed con d ratio).store.made ≡ store.made + 1)
+    by_checks (Err refusal) h = absurd (stands refusal (ap (λ (x : Inserted). x.answer) (insert_refused e store listed con d ratio refusal h)))
+    by_checks (Ok end) h =
+        let w = checked_passes e ratio listed store.made con end (store_sides store) d h in
+        let same = placed_linked store room w.roomy con end.point w.con_made w.other_made d end.interval ratio in (
           w.roomy,
-          ap (λ (x : Inserted). x.store.made) (insert_passed e store listed con d ratio other interval h)
-              ∙ sided_made e (placed store con other d interval ratio) (room_placed store room w.roomy con other w.con_made w.other_made d interval ratio) con store.made w.roomy d
+          ap (λ (x : Inserted). x.store.made) (insert_passed e store listed con d ratio end h)
+              ∙ sided_made e (placed store con end.point d end.interval ratio) (room_placed store room w.roomy con end.point w.con_made w.other_made d end.interval ratio) con store.made w.roomy d
               ∙ ap (λ (s : Store). s.made) same,
         )

@@ -2,93 +2,89 @@
 -- is listed is an argument). The answer counts the sides opened and the links inferred, done or torn; a refusal leaves the store as
 -- it was. In each store, also one that no call makes: a number never made is 11; where the facing side of the other point is an
 -- opening, it stores no interval and the insertion is 3; a border's weight there counts as its interval, as in the source.
-use Rattle.std.specs.Prelude.{ℕ, ◌+◌, Bool, true, false, cond, ◌||◌, [], ◌∷◌, ltb, Float}
+use Rattle.std.specs.Prelude.{ℕ, ◌+◌, Bool, true, false, cond, ◌||◌, [], ◌∷◌, ltb, Float, Err, None, Ok, Option, Result, Some}
 use Rattle.std.specs.Float.{binary64}
 use Rattle.std.specs.Float.Ieee.{sub, mul}
 use Rattle.float64.specs.Literals.{zero_literal, one_literal}
 use Rattle.float64.specs.Unit.{in_unit}
 use Rattle.control_point.specs.Direction.{clockwise_of, anti_clockwise_of, flip_of}
-use Rattle.control_point.specs.Point.{with_side, loose_point, side_refusal}
+use Rattle.control_point.specs.Point.{with_side, loose_point, side_refusal, link_end}
 use Rattle.control_point.specs.Told.{Told, natural, refusal_told}
 use Rattle.control_point.specs.Sides.{Sides, side_at, sides_with}
 use Rattle.control_point.specs.Small.{small}
 use Rattle.control_point.specs.declared.refusal.Refusal.TheVariants.{Ratio, Foreign, Interval, Full}
-use Rattle.control_point.specs.declared.sides.SideAnswer.{SideAnswer}
-use Rattle.control_point.specs.declared.sides.SideAnswer.TheVariants.{Is, Refused as NoSide}
 use Rattle.control_point.specs.declared.t_mesh_control_point.Side.{Side}
 use Rattle.control_point.specs.declared.t_mesh_control_point.Side.TheVariants.{Link, Border, Opening}
 use Rattle.control_point.specs.declared.t_mesh_control_point.TmeshControlPoint.{TmeshControlPoint}
 use Rattle.control_point.specs.declared.t_mesh_direction.TmeshDirection.{TmeshDirection}
 use Rattle.search.specs.Search.{find_inferred_connection}
-use Rattle.search.specs.declared.search.Found.{Found}
-use Rattle.search.specs.declared.search.Found.TheVariants.{At, Nothing, Failed}
 use Rattle.store.specs.Store.{store_sides, with_side_at, with_new, connect_points}
 use Rattle.store.specs.declared.store.Changed.{Changed}
 use Rattle.store.specs.declared.store.Store.{Store}
-use Rattle.insertion.specs.declared.insertion.Checked.{Checked}
-use Rattle.insertion.specs.declared.insertion.Checked.TheVariants.{Passed, Refused as NotPassed}
-use Rattle.insertion.specs.declared.insertion.InsertAnswer.{InsertAnswer}
-use Rattle.insertion.specs.declared.insertion.InsertAnswer.TheVariants.{Done, Torn, Refused}
+use Rattle.insertion.specs.declared.insertion.Insertion.TheVariants.{Done, Torn}
 use Rattle.insertion.specs.declared.insertion.Inserted.{Inserted}
 use Rattle.insertion.specs.declared.insertion.NewSide.{NewSide}
 use Rattle.insertion.specs.declared.insertion.NewSide.TheVariants.{Takes, Joins, Opens, Tears, Stays}
+use Rattle.control_point.specs.declared.refusal.Refusal.{Refusal}
+use Rattle.control_point.specs.declared.t_mesh_control_point.LinkEnd.{LinkEnd}
+use Rattle.insertion.specs.declared.insertion.Insertion.{Insertion}
 
 -- ---- the answer
 -- what it tells: 0 done or 8 torn, with the counts of sides opened and of links inferred; or the refusal's number
 abbrev pub counted : ℕ → ℕ → ℕ → Told
 counted number opened inferred = record { number = number; values = natural opened ∷ (natural inferred ∷ []) }
 
-abbrev pub insert_told : InsertAnswer → Told
-insert_told (Done opened inferred) = counted 0 opened inferred
-insert_told (Torn opened inferred) = counted 8 opened inferred
-insert_told (Refused refusal) = refusal_told refusal
+abbrev pub insert_told : Result Insertion Refusal → Told
+insert_told (Ok (Done opened inferred)) = counted 0 opened inferred
+insert_told (Ok (Torn opened inferred)) = counted 8 opened inferred
+insert_told (Err refusal) = refusal_told refusal
 
-abbrev pub answer_number : InsertAnswer → ℕ
+abbrev pub answer_number : Result Insertion Refusal → ℕ
 answer_number answer = (insert_told answer).number
 
 -- whether it is done, whether it is torn, and whether it is refused
-abbrev pub is_done : InsertAnswer → Bool
-is_done (Done opened inferred) = true
-is_done (Torn opened inferred) = false
-is_done (Refused refusal) = false
+abbrev pub is_done : Result Insertion Refusal → Bool
+is_done (Ok (Done opened inferred)) = true
+is_done (Ok (Torn opened inferred)) = false
+is_done (Err refusal) = false
 
-abbrev pub is_torn : InsertAnswer → Bool
-is_torn (Done opened inferred) = false
-is_torn (Torn opened inferred) = true
-is_torn (Refused refusal) = false
+abbrev pub is_torn : Result Insertion Refusal → Bool
+is_torn (Ok (Done opened inferred)) = false
+is_torn (Ok (Torn opened inferred)) = true
+is_torn (Err refusal) = false
 
-abbrev pub is_refused : InsertAnswer → Bool
-is_refused (Done opened inferred) = false
-is_refused (Torn opened inferred) = false
-is_refused (Refused refusal) = true
+abbrev pub is_refused : Result Insertion Refusal → Bool
+is_refused (Ok (Done opened inferred)) = false
+is_refused (Ok (Torn opened inferred)) = false
+is_refused (Err refusal) = true
 
 -- ---- the checks, in order
 -- the difference of the two stored intervals not small: 6; the store full: 10. Passed, the checks give the other point and the interval
-unfoldable pub checked_intervals : Float → ℕ → ℕ → Float → Float → Checked
+unfoldable pub checked_intervals : Float → ℕ → ℕ → Float → Float → Result LinkEnd Refusal
 checked_intervals e made other interval facing =
-    cond (small e (sub binary64 interval facing)) (cond (ltb made 128) (Passed other interval) (NotPassed Full)) (NotPassed Interval)
+    cond (small e (sub binary64 interval facing)) (cond (ltb made 128) (Ok (link_end other interval)) (Err Full)) (Err Interval)
 
 -- by the facing side of the other point
-abbrev pub checked_facing : Float → ℕ → ℕ → Float → SideAnswer → Checked
-checked_facing e made other interval (Is (Link n facing)) = checked_intervals e made other interval facing
-checked_facing e made other interval (Is (Border weight)) = checked_intervals e made other interval weight
-checked_facing e made other interval (Is Opening) = NotPassed (side_refusal Opening)
-checked_facing e made other interval (NoSide refusal) = NotPassed refusal
+abbrev pub checked_facing : Float → ℕ → ℕ → Float → Result Side Refusal → Result LinkEnd Refusal
+checked_facing e made other interval (Ok (Link n facing)) = checked_intervals e made other interval facing
+checked_facing e made other interval (Ok (Border weight)) = checked_intervals e made other interval weight
+checked_facing e made other interval (Ok Opening) = Err (side_refusal Opening)
+checked_facing e made other interval (Err refusal) = Err refusal
 
 -- by con's side: an opening is 3, a border 4; `facing` gives the facing side of each point
-abbrev pub checked_side : Float → ℕ → SideAnswer → (ℕ → SideAnswer) → Checked
-checked_side e made (Is (Link other interval)) facing = checked_facing e made other interval (facing other)
-checked_side e made (Is (Border weight)) facing = NotPassed (side_refusal (Border weight))
-checked_side e made (Is Opening) facing = NotPassed (side_refusal Opening)
-checked_side e made (NoSide refusal) facing = NotPassed refusal
+abbrev pub checked_side : Float → ℕ → Result Side Refusal → (ℕ → Result Side Refusal) → Result LinkEnd Refusal
+checked_side e made (Ok (Link other interval)) facing = checked_facing e made other interval (facing other)
+checked_side e made (Ok (Border weight)) facing = Err (side_refusal (Border weight))
+checked_side e made (Ok Opening) facing = Err (side_refusal Opening)
+checked_side e made (Err refusal) facing = Err refusal
 
 -- the ratio not from 0 to 1 (−0.0 is, a NaN is not): 1; con not listed: 2
-unfoldable pub checked : Float → Float → Bool → ℕ → SideAnswer → (ℕ → SideAnswer) → Checked
+unfoldable pub checked : Float → Float → Bool → ℕ → Result Side Refusal → (ℕ → Result Side Refusal) → Result LinkEnd Refusal
 checked e ratio listed made side facing =
-    cond (in_unit ratio) (cond listed (checked_side e made side facing) (NotPassed Foreign)) (NotPassed Ratio)
+    cond (in_unit ratio) (cond listed (checked_side e made side facing) (Err Foreign)) (Err Ratio)
 
 -- on the link from con in a direction, over sides
-abbrev pub checked_link : Float → Float → Bool → Sides → ℕ → ℕ → TmeshDirection → Checked
+abbrev pub checked_link : Float → Float → Bool → Sides → ℕ → ℕ → TmeshDirection → Result LinkEnd Refusal
 checked_link e ratio listed sides made con d = checked e ratio listed made (side_at sides made con d) (λ other. side_at sides made other (flip_of d))
 
 -- ---- placing p
@@ -117,10 +113,10 @@ placed store con other d interval ratio = (far_joined store con other d interval
 
 -- ---- a side of p across the link
 -- what the search makes of an opened side
-abbrev pub sought_side : Found → NewSide
-sought_side (At n interval) = Joins n interval
-sought_side Nothing = Opens
-sought_side (Failed refusal) = Tears
+abbrev pub sought_side : Result (Option LinkEnd) Refusal → NewSide
+sought_side (Ok (Some end)) = Joins end.point end.interval
+sought_side (Ok None) = Opens
+sought_side (Err refusal) = Tears
 
 -- con's border, or else
 abbrev pub border_or : Side → NewSide → NewSide
@@ -129,7 +125,7 @@ border_or (Link n interval) otherwise = otherwise
 border_or Opening otherwise = otherwise
 
 -- p's side is opened and the inferred link is sought
-abbrev pub sought : Float → Sides → ℕ → ℕ → TmeshDirection → Found
+abbrev pub sought : Float → Sides → ℕ → ℕ → TmeshDirection → Result (Option LinkEnd) Refusal
 sought e sides made p f = find_inferred_connection e (sides_with sides p f Opening) made p f
 
 -- if con has a border there, p takes its weight; else it is what the search makes of it, and what a failed one met is no part of it
@@ -173,10 +169,10 @@ inferred_count Tears = 0
 inferred_count Stays = 0
 
 -- the counts of both sides, torn where either search failed
-abbrev pub counted_answer : Bool → ℕ → ℕ → InsertAnswer
-counted_answer torn opened inferred = cond torn (Torn opened inferred) (Done opened inferred)
+abbrev pub counted_answer : Bool → ℕ → ℕ → Result Insertion Refusal
+counted_answer torn opened inferred = cond torn (Ok (Torn opened inferred)) (Ok (Done opened inferred))
 
-abbrev pub answer_of : NewSide → NewSide → InsertAnswer
+abbrev pub answer_of : NewSide → NewSide → Result Insertion Refusal
 answer_of first second =
     counted_answer (tears first || tears second) (opened_count first + opened_count second) (inferred_count first + inferred_count second)
 
@@ -201,9 +197,9 @@ sided e store con p d =
 
 -- ---- the call
 -- refused by a check, the store is left as it was
-abbrev pub passed : Store → Checked → (ℕ → Float → Inserted) → Inserted
-passed store (Passed other interval) next = next other interval
-passed store (NotPassed refusal) next = record { answer = Refused refusal; store = store }
+abbrev pub passed : Store → Result LinkEnd Refusal → (ℕ → Float → Inserted) → Inserted
+passed store (Ok end) next = next end.point end.interval
+passed store (Err refusal) next = record { answer = Err refusal; store = store }
 
 unfoldable pub insert_point : Float → Store → Bool → ℕ → TmeshDirection → Float → Inserted
 insert_point e store listed con d ratio =

@@ -1,5 +1,5 @@
 -- Insertion into lent points: each change of the store by which p is placed and gets its sides, as a change of points.
-use Rattle.std.specs.Prelude.{ℕ, Bool, List, ◌≡◌, Float}
+use Rattle.std.specs.Prelude.{ℕ, Bool, List, ◌≡◌, Float, Result}
 use Rattle.std.specs.Float.{binary64}
 use Rattle.std.specs.Float.Ieee.{mul, sub}
 use Rattle.float64.specs.Literals.{one_literal}
@@ -12,7 +12,8 @@ use Rattle.store.specs.declared.store.Store.{Store}
 use Rattle.insertion.specs.Insert.{point_in_line, insert_point}
 use Rattle.insertion.specs.declared.insertion.NewSide.{NewSide}
 use Rattle.insertion.specs.declared.insertion.NewSide.TheVariants.{Takes, Joins, Opens, Tears, Stays}
-use Rattle.insertion.specs.declared.insertion.InsertAnswer.{InsertAnswer}
+use Rattle.control_point.specs.declared.refusal.Refusal.{Refusal}
+use Rattle.insertion.specs.declared.insertion.Insertion.{Insertion}
 
 -- the link is cut and p is made
 abbrev pub points_parted : Points → ℕ → ℕ → ℕ → TmeshDirection → Points
@@ -33,7 +34,7 @@ points_with_new points p f Tears = points_with_side points p f Opening
 points_with_new points p f Stays = points
 
 -- whatever store's points they were, of which so many are made, they are after it those of the store after the insertion, and the answer is its
-abbrev pub Inserts : Float → Points → ℕ → Bool → ℕ → TmeshDirection → Float → InsertAnswer → Points → Type 0
+abbrev pub Inserts : Float → Points → ℕ → Bool → ℕ → TmeshDirection → Float → Result Insertion Refusal → Points → Type 0
 Inserts e points made listed con d ratio answer after =
     (rest : List TmeshControlPoint) (store : Store) → Held points rest store → store.made ≡ made
     → (answer ≡ (insert_point e store listed con d ratio).answer) × Held after rest (insert_point e store listed con d ratio).store

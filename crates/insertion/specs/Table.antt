@@ -1,5 +1,6 @@
--- The table of an insertion: the number that it tells, by the checks in document 01's order. In each store, also one that no call makes: a number
--- never made is 11, and an opening that faces the link 3. The checks passed, it is 8 where a search failed and 0 where none did, with the counts.
+-- The table of an insertion: the number that it tells, by the checks in their order: the ratio, whether con is listed and made, its side, whether the other
+-- point is made, the side that faces, the two intervals, and room. In each store, also one that no call makes: a number never made is 11, and an opening
+-- that faces the link 3. The checks passed, it is 8 where a search failed and 0 where none did, with the counts.
 use Rattle.std.specs.Prelude.{ℕ, ◌+◌, Bool, not, cond, ◌||◌, ltb, Float}
 use Rattle.std.specs.Float.{binary64}
 use Rattle.std.specs.Float.Ieee.{sub}

@@ -5,7 +5,6 @@ ghost use Rattle.std.specs.Prelude.{◌≡◌};
 ghost use Rattle.control_point.specs.Small.{millionth};
 ghost use Rattle.surface.specs.Evaluation.{with_knots};
 
-use control_point::refusal::Outcome;
 use knot_vectors::knots::{Generated, generate_knot_vectors};
 use t_mesh::t_mesh::Tmesh;
 
@@ -15,7 +14,7 @@ pub fn with_knots(map: Tmesh) -> Generated
 {
     if map.kept {
         return Generated {
-            outcome: Outcome::Done,
+            outcome: Ok(()),
             map,
         };
     }

@@ -26,6 +26,6 @@ pub record SortingExamples : Type 0 where
   -- the two zeros keep their places
   pub zeros : sorted (zero_literal ∷ (minus_zero ∷ [])) ≡ zero_literal ∷ (minus_zero ∷ [])
   pub zeros_exchanged : sorted (minus_zero ∷ (zero_literal ∷ [])) ≡ minus_zero ∷ (zero_literal ∷ [])
-  -- the knots of document 01's point 0, and the same falling
+  -- the knots of a map's corner 0, and the same falling
   pub passed : sorted (minus_one ∷ (minus_one ∷ (zero_literal ∷ (one_literal ∷ (two ∷ []))))) ≡ minus_one ∷ (minus_one ∷ (zero_literal ∷ (one_literal ∷ (two ∷ []))))
   pub fallen : sorted (two ∷ (one_literal ∷ (zero_literal ∷ (minus_one ∷ (minus_one ∷ []))))) ≡ minus_one ∷ (minus_one ∷ (zero_literal ∷ (one_literal ∷ (two ∷ []))))

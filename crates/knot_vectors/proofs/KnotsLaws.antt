@@ -1,11 +1,9 @@
 -- Laws of the knots of a map: a point's knots over the sides of its store, a turn of the loop over the numbers, and the map that keeps what it built.
-use Rattle.std.specs.Prelude.{ℕ, suc, ◌+◌, ◌≡◌, refl, Bool, List, Float, set}
+use Rattle.std.specs.Prelude.{ℕ, suc, ◌+◌, ◌≡◌, refl, Bool, List, Float, set, Err, Ok, Result, ⊤}
 use Rattle.std.proofs.Common.{sym, ap, ◌∙◌}
 use Rattle.std.proofs.Math.Bool.{true, false}
 use Rattle.control_point.specs.Point.{is_made}
 use Rattle.control_point.specs.Sides.{Sides}
-use Rattle.control_point.specs.declared.refusal.Outcome.{Outcome}
-use Rattle.control_point.specs.declared.refusal.Outcome.TheVariants.{Done, Refused}
 use Rattle.control_point.specs.declared.refusal.Refusal.{Refusal}
 use Rattle.control_point.specs.declared.t_mesh_direction.TmeshDirection.TheVariants.{Up}
 use Rattle.grid_index.specs.Index.{index_of}
@@ -62,24 +60,24 @@ module _ (e : Float) (map : Tmesh) (n : ℕ) (rows : List PointKnots) where
       in_row_lem : rows_from e map left n rows ≡ on_all (in_row built.outcome built.knots n rows) (λ filled. rows_from e map more (n + 1) filled)
       in_row_lem = rows_step left more h ∙ simp (l, sym k)
 
-      pub rows_put : built.outcome ≡ Done → rows_from e map left n rows ≡ rows_from e map more (n + 1) (set rows n built.knots)
+      pub rows_put : built.outcome ≡ Ok tt → rows_from e map left n rows ≡ rows_from e map more (n + 1) (set rows n built.knots)
       rows_put o = in_row_lem ∙ simp o
 
-      pub rows_refused : (refusal : Refusal) → built.outcome ≡ Refused refusal → rows_from e map left n rows ≡ none refusal
+      pub rows_refused : (refusal : Refusal) → built.outcome ≡ Err refusal → rows_from e map left n rows ≡ none refusal
       rows_refused refusal o = in_row_lem ∙ simp o
 
 -- ---- the map that keeps them
 -- by what was built and how it came out: done, with the index of it; refused, the map as it was
 module _ (map : Tmesh) where
-  pub keeping_done : (rows : AllKnots) (held : ListedKnots) → held ≡ held_knots map.knots rows → held.outcome ≡ Done → (index : Index) → index ≡ index_of map.mesh.listed held.knots
-      → record { outcome = Done; map = record { mesh = map.mesh; kept = true; knots = held.knots; index = index } } ≡ keeping map rows
+  pub keeping_done : (rows : AllKnots) (held : ListedKnots) → held ≡ held_knots map.knots rows → held.outcome ≡ Ok tt → (index : Index) → index ≡ index_of map.mesh.listed held.knots
+      → record { outcome = Ok tt; map = record { mesh = map.mesh; kept = true; knots = held.knots; index = index } } ≡ keeping map rows
   keeping_done (all rows) held is done index i =
-      ap (λ (x : Index). record { outcome = Done; map = record { mesh = map.mesh; kept = true; knots = held.knots; index = x } }) i
+      ap (λ (x : Index). record { outcome = Ok tt; map = record { mesh = map.mesh; kept = true; knots = held.knots; index = x } }) i
       ∙ ap (λ (x : ListedKnots). keeping map (all x.knots)) is
   keeping_done (none refusal) held is done index i = refused_not refusal (sym (ap (λ (x : ListedKnots). x.outcome) is) ∙ done)
 
-  pub keeping_refused : (rows : AllKnots) (held : ListedKnots) → held ≡ held_knots map.knots rows → (refusal : Refusal) → held.outcome ≡ Refused refusal
-      → record { outcome = Refused refusal; map = map } ≡ keeping map rows
+  pub keeping_refused : (rows : AllKnots) (held : ListedKnots) → held ≡ held_knots map.knots rows → (refusal : Refusal) → held.outcome ≡ Err refusal
+      → record { outcome = Err refusal; map = map } ≡ keeping map rows
   keeping_refused (all rows) held is refusal refused = refused_not refusal (sym refused ∙ ap (λ (x : ListedKnots). x.outcome) is)
   keeping_refused (none met) held is refusal refused =
-      ap (λ (outcome : Outcome). record { outcome = outcome; map = map }) (sym refused ∙ ap (λ (x : ListedKnots). x.outcome) is)
+      ap (λ (outcome : Result ⊤ Refusal). record { outcome = outcome; map = map }) (sym refused ∙ ap (λ (x : ListedKnots). x.outcome) is)

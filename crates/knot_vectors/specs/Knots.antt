@@ -1,8 +1,6 @@
 -- The knots of all listed points of a map (`generate_knot_vectors`), in the order of the numbers, and the index built from them. The first
 -- refusal met is the answer, and then the map is as it was. e is the closeness.
-use Rattle.std.specs.Prelude.{ℕ, zero, suc, ◌+◌, true, cond, List, Float, set}
-use Rattle.control_point.specs.declared.refusal.Outcome.{Outcome}
-use Rattle.control_point.specs.declared.refusal.Outcome.TheVariants.{Done, Refused}
+use Rattle.std.specs.Prelude.{ℕ, zero, suc, ◌+◌, true, cond, List, Float, set, Err, Ok, Result, ⊤}
 use Rattle.control_point.specs.declared.refusal.Refusal.{Refusal}
 use Rattle.grid_index.specs.Index.{index_of}
 use Rattle.ray.specs.Knots.{point_knot_vectors}
@@ -22,9 +20,9 @@ on_all (all rows) next = next rows
 on_all (none refusal) next = none refusal
 
 -- a point's knots in the row of its number
-abbrev pub in_row : Outcome → PointKnots → ℕ → List PointKnots → AllKnots
-in_row Done knots n rows = all (set rows n knots)
-in_row (Refused refusal) knots n rows = none refusal
+abbrev pub in_row : Result ⊤ Refusal → PointKnots → ℕ → List PointKnots → AllKnots
+in_row (Ok tt) knots n rows = all (set rows n knots)
+in_row (Err refusal) knots n rows = none refusal
 
 -- a listed point's row filled; another's left
 abbrev pub with_row : Float → Tmesh → ℕ → List PointKnots → AllKnots
@@ -43,13 +41,13 @@ all_knots e map = rows_from e map 128 0 map.knots
 
 -- the map that keeps them and their index; refused, the map as it was
 abbrev pub keeping : Tmesh → AllKnots → Generated
-keeping map (all rows) = record { outcome = Done; map = record { mesh = map.mesh; kept = true; knots = rows; index = index_of map.mesh.listed rows } }
-keeping map (none refusal) = record { outcome = Refused refusal; map = map }
+keeping map (all rows) = record { outcome = Ok tt; map = record { mesh = map.mesh; kept = true; knots = rows; index = index_of map.mesh.listed rows } }
+keeping map (none refusal) = record { outcome = Err refusal; map = map }
 
 unfoldable pub generate_knot_vectors : Float → Tmesh → Generated
 generate_knot_vectors e map = keeping map (all_knots e map)
 
 -- ---- as code holds them: the outcome, and the rows or those before
 abbrev pub held_knots : List PointKnots → AllKnots → ListedKnots
-held_knots before (all rows) = record { outcome = Done; knots = rows }
-held_knots before (none refusal) = record { outcome = Refused refusal; knots = before }
+held_knots before (all rows) = record { outcome = Ok tt; knots = rows }
+held_knots before (none refusal) = record { outcome = Err refusal; knots = before }

@@ -1,6 +1,6 @@
 -- What the sides of a sound store come to after an insertion: placed, a point adds a link and two borders; an opened side is an opening for a border,
 -- and an inferred link is a link for two openings.
-use Rattle.std.specs.Prelude.{ℕ, ◌+◌, ◌*◌, ◌<◌, ◌≡◌, refl, Bool, true, false, ◌||◌, Float}
+use Rattle.std.specs.Prelude.{ℕ, ◌+◌, ◌*◌, ◌<◌, ◌≡◌, refl, Bool, true, false, ◌||◌, Float, Err}
 use Rattle.std.proofs.Math.Path.{ap}
 use Rattle.std.proofs.Common.{◌∙◌}
 use native.Mathlib.Omega.{arith}
@@ -22,7 +22,6 @@ use Rattle.mirror.specs.Mirror.{Sound}
 use Rattle.mirror.proofs.MirrorLaws.{done_joining, sound_side}
 use Rattle.insertion.specs.Insert.{cut, point_in_line, parted, placed, with_new_side, tears, opened_count, inferred_count, counted_answer, first_side, with_first, second_side, sided, insert_point}
 use Rattle.insertion.proofs.InsertLaws.{MayJoin, joined_linked, first_joins, second_joins}
-use Rattle.insertion.specs.declared.insertion.InsertAnswer.TheVariants.{Refused}
 use Rattle.insertion.specs.declared.insertion.Inserted.{Inserted}
 use Rattle.insertion.specs.declared.insertion.NewSide.{NewSide}
 use Rattle.insertion.specs.declared.insertion.NewSide.TheVariants.{Takes, Joins, Opens, Tears, Stays}
@@ -162,7 +161,7 @@ module _ (e : Float) (store : Store) (sound : Sound store) (con : ℕ) (d : Tmes
       second : NewSide
       second = second_side e after con store.made d
 
-  books_refused : (refusal : Refusal) → Known refusal → Books store (record { answer = Refused refusal; store = store })
+  books_refused : (refusal : Refusal) → Known refusal → Books store (record { answer = Err refusal; store = store })
   books_refused refusal known price link border opening prices = omega arith
 
   pub books : (listed : Bool) → (listed ≡ true → con < store.made) → Books store (insert_point e store listed con d ratio)

@@ -1,5 +1,5 @@
 -- The ledger holds because a fresh map has four links and eight borders, and each call moves what its sides come to by what its answer says; a withdrawn insertion moves nothing.
-use Rattle.std.specs.Prelude.{ℕ, ◌+◌, ◌*◌, ◌≡◌, Bool, true, false, cond, ◌&&◌, ◌||◌, List, [], ◌∷◌, eqb, Float}
+use Rattle.std.specs.Prelude.{ℕ, ◌+◌, ◌*◌, ◌≡◌, Bool, true, false, cond, ◌&&◌, ◌||◌, List, [], ◌∷◌, eqb, Float, Err, Ok, Result}
 use Rattle.std.proofs.Math.Path.{refl, ap}
 use Rattle.std.proofs.Common.{sym, ◌∙◌, subst}
 use native.Mathlib.Omega.{arith}
@@ -16,8 +16,7 @@ use Rattle.control_point.specs.declared.t_mesh_direction.TmeshDirection.TheVaria
 use Rattle.store.specs.declared.store.Store.{Store}
 use Rattle.insertion.specs.Insert.{is_done, is_refused, insert_point}
 use Rattle.insertion.specs.Withdrawal.{is_withdrawn}
-use Rattle.insertion.specs.declared.insertion.InsertAnswer.{InsertAnswer}
-use Rattle.insertion.specs.declared.insertion.InsertAnswer.TheVariants.{Done, Torn, Refused}
+use Rattle.insertion.specs.declared.insertion.Insertion.TheVariants.{Done, Torn}
 use Rattle.insertion.specs.declared.insertion.Inserted.{Inserted}
 use Rattle.t_mesh.specs.Insertion.{after_insertion, add_control_point}
 use Rattle.t_mesh.specs.Tmesh.{store_of, mesh_store, listed_in, is_listed, corner_store, new_tmesh}
@@ -44,6 +43,8 @@ use Rattle.ledger.proofs.PriceLaws.{Price, worth}
 use Rattle.ledger.proofs.ChangeLaws.{worth_of, Prices}
 use Rattle.ledger.proofs.BookingLaws.{Booked, books}
 use Rattle.ledger.proofs.CountedLaws.{passing, ahead, worth_passing, worth_ahead, worth_openings}
+use Rattle.control_point.specs.declared.refusal.Refusal.{Refusal}
+use Rattle.insertion.specs.declared.insertion.Insertion.{Insertion}
 
 -- ---- a step from one mesh to another
 -- with so many points more, so many of them listed, its sides come to what was booked
@@ -68,7 +69,7 @@ step_then one rest =
 
 -- ---- an insertion
 module _ (map : Tmesh) (sound : SoundMesh map.mesh) (e : Float) (con : ℕ) (d : TmeshDirection) (ratio : Float) (position : Position) where
-  abbrev AnswerStep : InsertAnswer → Mesh → Type 0
+  abbrev AnswerStep : Result Insertion Refusal → Mesh → Type 0
   AnswerStep answer after = Step map.mesh (made_by answer) (listed_by answer) (opened_by answer) (inferred_by answer) after
 
   result : Inserted
@@ -86,23 +87,23 @@ module _ (map : Tmesh) (sound : SoundMesh map.mesh) (e : Float) (con : ℕ) (d :
   unfolding result add_control_point
   result_lists = insertion_lists map sound e con d ratio position
 
-  by_answer : (answer : InsertAnswer) (store : Store) → Booked (store_of map) (made_by answer) (opened_by answer) (inferred_by answer) store
+  by_answer : (answer : Result Insertion Refusal) (store : Store) → Booked (store_of map) (made_by answer) (opened_by answer) (inferred_by answer) store
       → (is_refused answer ≡ false → Grown (store_of map) store)
       → ((n : ℕ) → is_listed (after_insertion map position answer store) n ≡ ((is_done answer && eqb n (store_of map).made) || is_listed map n))
       → AnswerStep answer (after_insertion map position answer store).mesh
-  by_answer (Done opened inferred) store booked grown lists =
+  by_answer (Ok (Done opened inferred)) store booked grown lists =
       record {
         made_is = (grown refl).made_is;
         listed_is = count_with 128 (is_listed map) _ (store_of map).made (grown refl).roomy (unlisted map sound) lists;
         booked = booked;
       }
-  by_answer (Torn opened inferred) store booked grown lists =
+  by_answer (Ok (Torn opened inferred)) store booked grown lists =
       record {
         made_is = (grown refl).made_is;
         listed_is = omega (arith, count_same 128 _ (is_listed map) (λ n below. lists n));
         booked = booked;
       }
-  by_answer (Refused refusal) store booked grown lists = no_step map.mesh
+  by_answer (Err refusal) store booked grown lists = no_step map.mesh
 
   insertion_step : AnswerStep (add_control_point e map con d ratio position).answer (add_control_point e map con d ratio position).map.mesh
   unfolding add_control_point result
@@ -110,12 +111,12 @@ module _ (map : Tmesh) (sound : SoundMesh map.mesh) (e : Float) (con : ℕ) (d :
 
 -- ---- a list of calls
 -- it follows the answers of its insertions, to a sound mesh
-record Follows (before : Mesh) (answers : List InsertAnswer) (after : Mesh) : Type 0 where
+record Follows (before : Mesh) (answers : List (Result Insertion Refusal)) (after : Mesh) : Type 0 where
   sound : SoundMesh after
   step : Step before (done_or_torn answers) (insertions_done answers) (sides_opened answers) (links_inferred answers) after
 
 -- an answer before others: withdrawn, it is passed over and the mesh is as it was
-answer_then : (withdrawn : Bool) (before inserted : Tmesh) (answer : InsertAnswer) {answers : List InsertAnswer} {after : Mesh}
+answer_then : (withdrawn : Bool) (before inserted : Tmesh) (answer : Result Insertion Refusal) {answers : List (Result Insertion Refusal)} {after : Mesh}
     → Step before.mesh (made_by answer) (listed_by answer) (opened_by answer) (inferred_by answer) inserted.mesh
     → Follows (cond withdrawn before inserted).mesh answers after
     → Follows before.mesh (cond withdrawn answers (answer ∷ answers)) after
@@ -124,11 +125,11 @@ answer_then true before inserted answer step rest = rest
 answer_then false before inserted answer step rest = record { sound = rest.sound; step = step_then step rest.step }
 
 -- from the same mesh
-from_same : {before other after : Mesh} {answers : List InsertAnswer} → before ≡ other → Follows before answers after → Follows other answers after
+from_same : {before other after : Mesh} {answers : List (Result Insertion Refusal)} → before ≡ other → Follows before answers after → Follows other answers after
 from_same {before} {other} {after} {answers} same ran = subst (λ (mesh : Mesh). Follows mesh answers after) same ran
 
 -- from the mesh after a setting of a pull, which has the store and the listing of the one before
-from_pulled : (e : Float) (map : Tmesh) (n : ℕ) (pull : Float) {after : Mesh} {answers : List InsertAnswer}
+from_pulled : (e : Float) (map : Tmesh) (n : ℕ) (pull : Float) {after : Mesh} {answers : List (Result Insertion Refusal)}
     → Follows (map_after e map (pulling n pull)).mesh answers after → Follows map.mesh answers after
 from_pulled e map n pull {after} {answers} =
     pulled_case map n pull (λ own. Follows own.mesh answers after → Follows map.mesh answers after) (λ ran. ran)
@@ -210,7 +211,7 @@ module _ (weight : Float) (at_bottom_left at_bottom_right at_top_right at_top_le
   fresh_listed = refl
 
   -- ---- THE LEDGER OF SIDES
-  module _ (answers : List InsertAnswer) (map : Tmesh) (ran : Follows fresh answers map.mesh) where
+  module _ (answers : List (Result Insertion Refusal)) (map : Tmesh) (ran : Follows fresh answers map.mesh) where
     abbrev C : ℕ
     C = done_or_torn answers
 

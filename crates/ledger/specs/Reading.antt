@@ -1,13 +1,12 @@
--- The theorem is not empty. On a map with border 1.0 and any corners, at document 01's closeness: ratio 0.5 from 0 Up; 0.5 from 1 Up, which infers a link; an insertion from
+-- The theorem is not empty. On a map with border 1.0 and any corners, at a closeness of a millionth: ratio 0.5 from 0 Up; 0.5 from 1 Up, which infers a link; an insertion from
 -- 0 Left, which is refused; 0.0 from 0 Right, which is torn and withdrawn; the same again, torn and not withdrawn; and 0.0 from 4 Right, which infers a link on one side and is
 -- torn on the other. The withdrawn one is in none of C, O and I: C is 4, O is 5 and I is 2, so 8 points, 10 links, 11 borders and 1 opening. 6 points are listed.
-use Rattle.std.specs.Prelude.{true, false, List, [], ◌∷◌, ◌≡◌}
+use Rattle.std.specs.Prelude.{true, false, List, [], ◌∷◌, ◌≡◌, Err, Ok, Result}
 use Rattle.float64.specs.Literals.{zero_literal}
 use Rattle.control_point.specs.Small.{millionth}
 use Rattle.control_point.specs.declared.refusal.Refusal.TheVariants.{BorderSide}
 use Rattle.control_point.specs.declared.t_mesh_direction.TmeshDirection.TheVariants.{Up, Right, Left}
-use Rattle.insertion.specs.declared.insertion.InsertAnswer.{InsertAnswer}
-use Rattle.insertion.specs.declared.insertion.InsertAnswer.TheVariants.{Done, Torn, Refused}
+use Rattle.insertion.specs.declared.insertion.Insertion.TheVariants.{Done, Torn}
 use Rattle.t_mesh.specs.Tmesh.{store_of}
 use Rattle.t_mesh.specs.declared.t_mesh.Position.{Position}
 use Rattle.t_mesh.specs.declared.t_mesh.Tmesh.{Tmesh}
@@ -19,10 +18,12 @@ use Rattle.calls.specs.Readings.{plate}
 use Rattle.soundness.specs.MapCalls.{map_after_all, entries}
 use Rattle.ledger.specs.Ledger.{done_or_torn, sides_opened, links_inferred}
 use Rattle.ledger.specs.Theorem.{entered_answers}
+use Rattle.control_point.specs.declared.refusal.Refusal.{Refusal}
+use Rattle.insertion.specs.declared.insertion.Insertion.{Insertion}
 
 -- what those that are not withdrawn answer
-abbrev pub answers : List InsertAnswer
-answers = Done 1 0 ∷ (Done 1 1 ∷ (Refused BorderSide ∷ (Torn 1 0 ∷ (Torn 2 1 ∷ []))))
+abbrev pub answers : List (Result Insertion Refusal)
+answers = (Ok (Done 1 0)) ∷ ((Ok (Done 1 1)) ∷ (Err BorderSide ∷ ((Ok (Torn 1 0)) ∷ ((Ok (Torn 2 1)) ∷ []))))
 
 module _ (at_bottom_left at_bottom_right at_top_right at_top_left position : Position) where
   abbrev pub fresh : Tmesh

@@ -9,12 +9,11 @@
 --
 -- and neither difference is cut off at 0. The left sides are counted from the mesh, as the calls `counts` and `openings` answer them; the right sides take the answers
 -- alone. `counts` answers the points listed too: they are 4 and the insertions done. Each link has its mirror, with the same interval, bit for bit.
-use Rattle.std.specs.Prelude.{ℕ, ◌+◌, ◌*◌, ◌<◌, ◌≤◌, Bool, List, [], ◌∷◌, ◌≡◌, Float}
+use Rattle.std.specs.Prelude.{ℕ, ◌+◌, ◌*◌, ◌<◌, ◌≤◌, Bool, List, [], ◌∷◌, ◌≡◌, Float, Result}
 use Rattle.control_point.specs.declared.t_mesh_control_point.Side.TheVariants.{Link}
 use Rattle.control_point.specs.declared.t_mesh_direction.TmeshDirection.{TmeshDirection}
 use Rattle.store.specs.Store.{store_sides}
 use Rattle.mirror.specs.Mirror.{MirrorOf}
-use Rattle.insertion.specs.declared.insertion.InsertAnswer.{InsertAnswer}
 use Rattle.t_mesh.specs.Tmesh.{store_of, new_tmesh}
 use Rattle.t_mesh.specs.declared.t_mesh.Position.{Position}
 use Rattle.t_mesh.specs.declared.t_mesh.Tmesh.{Tmesh}
@@ -24,16 +23,18 @@ use Rattle.calls.specs.Calls.{Call, Answer, inserted, evaluated, questioned, pul
 use Rattle.soundness.specs.MapCalls.{map_after_all, entries}
 use Rattle.soundness.specs.Theorems.{EveryMap}
 use Rattle.ledger.specs.Ledger.{entered_before, done_or_torn, sides_opened, links_inferred, counts_by, openings_by}
+use Rattle.control_point.specs.declared.refusal.Refusal.{Refusal}
+use Rattle.insertion.specs.declared.insertion.Insertion.{Insertion}
 
 -- an answer before others, if it is that of an insertion that is not withdrawn
-abbrev pub answer_before : Bool → Answer → List InsertAnswer → List InsertAnswer
+abbrev pub answer_before : Bool → Answer → List (Result Insertion Refusal) → List (Result Insertion Refusal)
 answer_before withdraws (inserted answer) rest = entered_before withdraws answer rest
 answer_before withdraws (evaluated answer) rest = rest
 answer_before withdraws (questioned answer) rest = rest
 answer_before withdraws (pulled outcome) rest = rest
 
 -- what the insertions of a run that are not withdrawn answered, in order
-unfoldable pub entered_answers : List Event → List InsertAnswer
+unfoldable pub entered_answers : List Event → List (Result Insertion Refusal)
 entered_answers [] = []
 entered_answers (event ∷ rest) = answer_before (call_withdraws event.call) event.answer (entered_answers rest)
 
@@ -42,7 +43,7 @@ entered_answers (event ∷ rest) = answer_before (call_withdraws event.call) eve
 -- the openings;
 -- that both differences are whole;
 -- and that each link has its mirror (`Mirrored` of crates/mirror, written out so that the interval is seen)
-pub record HasLedger (map : Tmesh) (answers : List InsertAnswer) : Type 0 where
+pub record HasLedger (map : Tmesh) (answers : List (Result Insertion Refusal)) : Type 0 where
   pub counts : counts_of map ≡ counts_by answers
   pub openings : (openings_answer (openings_of (store_of map))).count ≡ openings_by answers
   pub borders_whole : sides_opened answers ≤ 8 + 2 * done_or_torn answers

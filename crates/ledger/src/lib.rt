@@ -1,2 +1,2 @@
-// The ledger of sides over every list of insertions: definitions, statements and proofs in specs/, and no function.
+// The ledger of sides over every list of insertions: definitions and statements in specs/, proofs in proofs/, and no function.
 #![tactic(auto)]

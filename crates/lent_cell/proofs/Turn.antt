@@ -3,7 +3,7 @@
 use Prim.Native.Nat.{ℕ, ◌+◌, ◌*◌, ◌-◌, ◌/◌, ◌%◌, ◌^◌, ◌<◌, min}
 use mathlib.Core.Path.{◌≡◌, refl, sym, ap, ap₂, ◌∙◌}
 use mathlib.Core.Bool.{Bool, true, false, ◌&&◌}
-use mathlib.Core.List.{List}
+use mathlib.Core.List.{List, []}
 use native.Mathlib.Omega.{arith}
 use borrow.Author.Tests.{eqb-true, eqb-false}
 use lib.Dec.{eqb}
@@ -11,25 +11,23 @@ use lib.Ieee.{Float}
 use Rattle.bit_words.specs.Words.{word_from}
 use Rattle.bit_words.proofs.WordsLaws.{word_more, one_shifted}
 use Rattle.cells.specs.Cells.{cell_answer_by, cell_points}
-use Rattle.cells.specs.declared.CellAnswer.TheVariants.{Is, Refused}
-use Rattle.control_point.specs.Sides.{lent_sides}
-use Rattle.control_point.specs.declared.refusal.Outcome.TheVariants.{Done, Refused as NotBuilt}
 use Rattle.control_point.specs.declared.refusal.Refusal.{Refusal}
 use Rattle.grid.specs.Grid.{cell_column, cell_row, reaches}
 use Rattle.grid_index.specs.Index.{knots_in, reaches_cell, index_of, counted, cell_of}
 use Rattle.grid_index.proofs.IndexLaws.{cell_is}
 use Rattle.grid_index.specs.Lines.{marked_by}
 use Rattle.knot_vectors.specs.Knots.{AllKnots, all, none, all_knots, keeping, generate_knot_vectors}
-use Rattle.lent_knots.proofs.TurnLaws.{FilledTo, filled_none, filled_all, filled_passed, filled_refused, filled_put, filled_row}
+use Rattle.lent_knots.proofs.TurnLaws.{FilledTo, lent_knots, filled_none, filled_all, filled_passed, filled_refused, filled_put, filled_row}
 use Rattle.lent_mesh.specs.LentMesh.{lent_mesh, unkept, lent_map}
-use Rattle.lent_points.specs.Lent.{across_at, upwards_at}
-use Rattle.ray.specs.Knots.{knots_at}
+use Rattle.lent_mesh.specs.declared.LentMesh.{LentMesh}
+use Rattle.lent_points.specs.declared.LentPoints.{LentPoints}
 use Rattle.ray.specs.declared.knots.KnotsAnswer.{KnotsAnswer}
 use Rattle.ray.specs.declared.knots.PointKnots.{PointKnots}
 use Rattle.surface.specs.Evaluation.{with_knots}
 use Rattle.t_mesh.specs.Tmesh.{listed_in}
 use Rattle.t_mesh.specs.declared.t_mesh.Mesh.{Mesh}
 use Rattle.t_mesh.specs.declared.t_mesh.Tmesh.{Tmesh}
+use Rattle.std.specs.Prelude.{Err, Ok}
 
 -- ---- the words, number by number
 -- of the 64 numbers whose quotient by 64 is `half`, the word of those below n
@@ -71,6 +69,10 @@ pub record WordsTo (listed : List Bool) (rows : List PointKnots) (cell n first s
   pub first_is : first ≡ word_to (reaches_cell listed rows cell) 0 n
   pub second_is : second ≡ word_to (reaches_cell listed rows cell) 1 n
 
+-- a lent mesh of points, of which so many are made, and a listing; the positions have no part in what is asked
+abbrev pub unplaced : LentPoints → ℕ → List Bool → LentMesh
+unplaced points made listed = record { points = points; made = made; positions = []; listed = listed }
+
 module _ (listed : List Bool) (rows : List PointKnots) (cell : ℕ) where
   words_none : WordsTo listed rows cell 0 0 0
   unfolding word_from
@@ -102,12 +104,15 @@ unfolding cell_points with_knots generate_knot_vectors unkept
 cell_by e mesh cell rows are = ap (λ (r : AllKnots). cell_answer_by (keeping (unkept mesh) r).outcome (cell_of (keeping (unkept mesh) r).map.index cell)) are
 
 -- ---- the turns, in the map that lent arrays hold
-module _ (e : Float) (kinds numbers : List ℕ) (intervals coordinates : List Float) (made : ℕ) (listed : List Bool) (cell : ℕ) (positions : List (List Float)) where
+module _ (e : Float) (arrays : LentMesh) (cell : ℕ) (positions : List (List Float)) where
+  abbrev lent : LentMesh
+  lent = record arrays { positions = positions }
+
   abbrev map : Tmesh
-  map = lent_map kinds numbers intervals coordinates made positions listed
+  map = lent_map lent
 
   abbrev mesh : Mesh
-  mesh = lent_mesh kinds numbers intervals coordinates made positions listed
+  mesh = lent_mesh lent
 
   abbrev pub LentTurn : ℕ → ℕ → ℕ → Type 0
   LentTurn n first second = Turn e mesh cell n first second
@@ -115,44 +120,44 @@ module _ (e : Float) (kinds numbers : List ℕ) (intervals coordinates : List Fl
   pub turn_first : LentTurn 0 0 0
   turn_first =
       record {
-        filled = filled_none e kinds numbers intervals coordinates made positions listed;
-        words = λ rows are. words_none listed rows cell;
+        filled = filled_none e lent;
+        words = λ rows are. words_none arrays.listed rows cell;
       }
 
   module _ (n first second : ℕ) (turn : LentTurn n first second) where
-    pub turn_end : n ≡ 128 → cell < 256 → Is (counted first second) ≡ (cell_points e map cell).answer
+    pub turn_end : n ≡ 128 → cell < 256 → Ok (counted first second) ≡ (cell_points e map cell).answer
     unfolding unkept
     turn_end h fits =
         let rows = turn.filled.rows in
-        let are = filled_all e kinds numbers intervals coordinates made positions listed n turn.filled h in
-        ap Is (words_all listed rows cell n first second h (turn.words rows are) fits) ∙ sym (cell_by e mesh cell (all rows) are)
+        let are = filled_all e lent n turn.filled h in
+        ap Ok (words_all arrays.listed rows cell n first second h (turn.words rows are) fits) ∙ sym (cell_by e mesh cell (all rows) are)
 
     module _ (h : n < 128) where
-      pub turn_passed : listed_in listed n ≡ false → (first' second' : ℕ) → first' ≡ first → second' ≡ second → LentTurn (n + 1) first' second'
+      pub turn_passed : listed_in arrays.listed n ≡ false → (first' second' : ℕ) → first' ≡ first → second' ≡ second → LentTurn (n + 1) first' second'
       turn_passed l first' second' a b =
           record {
-            filled = filled_passed e kinds numbers intervals coordinates made positions listed n turn.filled h l;
+            filled = filled_passed e lent n turn.filled h l;
             words = λ rows are.
-                words_next listed rows cell n first second (turn.words rows are) false (sym (ap (λ (x : Bool). x && reaches (knots_in rows n) (cell_column cell) (cell_row cell)) l))
+                words_next arrays.listed rows cell n first second (turn.words rows are) false (sym (ap (λ (x : Bool). x && reaches (knots_in rows n) (cell_column cell) (cell_row cell)) l))
                 first' second' a b;
           }
 
-      module _ (built : KnotsAnswer) (k : built ≡ knots_at e (lent_sides kinds numbers intervals) made n (across_at coordinates n) (upwards_at coordinates n)) (l : listed_in listed n ≡ true) where
-        pub turn_refused : (refusal : Refusal) → built.outcome ≡ NotBuilt refusal → Refused refusal ≡ (cell_points e map cell).answer
+      module _ (built : KnotsAnswer) (k : built ≡ lent_knots e arrays n) (l : listed_in arrays.listed n ≡ true) where
+        pub turn_refused : (refusal : Refusal) → built.outcome ≡ Err refusal → Err refusal ≡ (cell_points e map cell).answer
         turn_refused refusal o =
-            sym (cell_by e mesh cell (none refusal) (filled_refused e kinds numbers intervals coordinates made positions listed n turn.filled h built k l refusal o))
+            sym (cell_by e mesh cell (none refusal) (filled_refused e lent n turn.filled h built k l refusal o))
 
-        pub turn_marked : built.outcome ≡ Done → (reached : Bool) → reached ≡ reaches built.knots (cell_column cell) (cell_row cell)
+        pub turn_marked : built.outcome ≡ Ok tt → (reached : Bool) → reached ≡ reaches built.knots (cell_column cell) (cell_row cell)
             → (first' second' : ℕ) → first' ≡ marked_by (reached && eqb (n / 64) 0) first (bit_at n) → second' ≡ marked_by (reached && eqb (n / 64) 1) second (bit_at n)
             → LentTurn (n + 1) first' second'
         turn_marked o reached is first' second' a b =
             record {
-              filled = filled_put e kinds numbers intervals coordinates made positions listed n turn.filled h built k l o;
-              words = λ rows are. words_next listed rows cell n first second (turn.words rows are) reached (tested rows are) first' second' a b;
+              filled = filled_put e lent n turn.filled h built k l o;
+              words = λ rows are. words_next arrays.listed rows cell n first second (turn.words rows are) reached (tested rows are) first' second' a b;
             }
           where
-            tested : (rows : List PointKnots) → all_knots e map ≡ all rows → reached ≡ reaches_cell listed rows cell n
+            tested : (rows : List PointKnots) → all_knots e map ≡ all rows → reached ≡ reaches_cell arrays.listed rows cell n
             tested rows are =
                 is
                 ∙ ap₂ (λ (x : Bool) (own : PointKnots). x && reaches own (cell_column cell) (cell_row cell)) (sym l)
-                (sym (filled_row e kinds numbers intervals coordinates made positions listed n turn.filled h built k l o rows are))
+                (sym (filled_row e lent n turn.filled h built k l o rows are))

@@ -5,43 +5,37 @@ ghost use Rattle.std.specs.Prelude.{◌≡◌, List, Float};
 ghost use Rattle.cells.specs.Cells.{cell_points};
 ghost use Rattle.lent_mesh.specs.LentMesh.{lent_map};
 
-use cells::CellAnswer;
-use control_point::refusal::Outcome;
+use control_point::refusal::Refusal;
 use grid::reaches;
-use grid_index::{counted, marked};
+use grid_index::{Cell, counted, marked};
 use lent_knots::knots_under;
+use lent_points::LentPoints;
 
 // Of the cell of a byte. The first listed point whose knots are refused ends it, whatever was found before. The positions have no part in it.
-pub fn lent_cell<'a>(
+pub fn lent_cell(
     closeness: f64,
-    kinds: &'a [u8; 512],
-    numbers: &'a [u8; 512],
-    intervals: &'a [f64; 512],
-    coordinates: &'a [f64; 256],
+    points: &LentPoints,
     made: u8,
-    listed: &'a [bool; 128],
+    listed: &[bool; 128],
     cell: u8,
-) -> CellAnswer
+) -> Result<Cell, Refusal>
     ensures { (positions : List (List Float)) →
-        let map = lent_map kinds.now numbers.now intervals.now coordinates.now made positions listed.now in
+        let map = lent_map (record { points = points.now; made = made; positions = positions; listed = listed.now }) in
         result ≡ (cell_points closeness map cell).answer }
 {
     let mut first: u64 = 0;
     let mut second: u64 = 0;
-    let mut n: u8 = 0;
-    while n < 128 {
-        if listed[n as usize] {
-            let built = knots_under(closeness, kinds, numbers, intervals, coordinates, made, n);
-            let outcome = built.outcome;
-            if let Outcome::Refused(refusal) = outcome {
-                return CellAnswer::Refused(refusal);
-            }
-            let set = reaches(built.knots, cell);
-            let bit = 1u64 << (n % 64);
-            first = marked(first, bit, set & (n / 64 == 0));
-            second = marked(second, bit, set & (n / 64 == 1));
+    for n in 0..128u8 {
+        let is_listed = listed[n as usize];
+        if !is_listed {
+            continue;
         }
-        n += 1;
+        let built = knots_under(closeness, points, made, n);
+        built.outcome?;
+        let set = reaches(built.knots, cell);
+        let bit = 1u64 << (n % 64);
+        first = marked(first, bit, set & (n / 64 == 0));
+        second = marked(second, bit, set & (n / 64 == 1));
     }
-    CellAnswer::Is(counted(first, second))
+    Ok(counted(first, second))
 }

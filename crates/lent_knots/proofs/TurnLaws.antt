@@ -1,18 +1,17 @@
 -- Laws of going point by point over a lent mesh, with the knots of each listed point computed, used and forgotten: a point's knots over the arrays are those of the mesh that they
 -- hold, each turn fills a row that no later one touches, and the end of the turns is the knots of all or the refusal met first. e is the closeness.
-use Rattle.std.specs.Prelude.{ℕ, zero, suc, ◌+◌, ◌-◌, ◌<◌, ◌≡◌, Bool, true, false, cond, List, Float, length, set}
+use Rattle.std.specs.Prelude.{ℕ, zero, suc, ◌+◌, ◌-◌, ◌<◌, ◌≡◌, Bool, true, false, cond, List, Float, length, set, Err, Ok, Result, ⊤}
 use Rattle.std.proofs.Math.Path.{refl}
 use Rattle.std.proofs.Common.{sym, ap, ◌∙◌, arith, length-set, get_or-set_same, get_or-set_other}
 use Rattle.std.proofs.Math.ListN.{length-replicate}
 use Rattle.control_point.specs.Sides.{Sides, lent_sides}
-use Rattle.control_point.specs.declared.refusal.Outcome.{Outcome}
-use Rattle.control_point.specs.declared.refusal.Outcome.TheVariants.{Done, Refused}
 use Rattle.control_point.specs.declared.refusal.Refusal.{Refusal}
 use Rattle.control_point.specs.declared.t_mesh_control_point.TmeshControlPoint.{TmeshControlPoint}
 use Rattle.grid_index.specs.Index.{no_knots, knots_in}
 use Rattle.knot_vectors.specs.Knots.{AllKnots, all, none, on_all, in_row, rows_from, all_knots}
 use Rattle.knot_vectors.proofs.KnotsLaws.{knots_made, rows_end, rows_passed, rows_put, rows_refused}
 use Rattle.lent_mesh.specs.LentMesh.{lent_mesh, unkept, lent_map}
+use Rattle.lent_mesh.specs.declared.LentMesh.{LentMesh}
 use Rattle.lent_mesh.proofs.LentMeshLaws.{loose_points, mesh_held}
 use Rattle.lent_points.specs.Lent.{lent_points, points_from, across_at, upwards_at, Held}
 use Rattle.lent_points.proofs.LentLaws.{held_agree}
@@ -34,7 +33,12 @@ pub record FilledTo (e : Float) (mesh : Mesh) (n : ℕ) : Type 0 where
   pub room : length rows ≡ 128
   pub left : all_knots e (unkept mesh) ≡ rows_from e (unkept mesh) (128 - n) n rows
 
--- ---- a point's knots over lent points that hold a store
+-- ---- a point's knots
+-- over the arrays
+abbrev pub lent_knots : Float → LentMesh → ℕ → KnotsAnswer
+lent_knots e lent n = knots_at e (lent_sides lent.points.sides) lent.made n (across_at lent.points.coordinates n) (upwards_at lent.points.coordinates n)
+
+-- over lent points that hold a store
 stored_knots : (e : Float) (sides : Sides) (coordinates : List Float) (rest : List TmeshControlPoint) (store : Store) → Held (points_from sides coordinates) rest store → (n : ℕ)
     → knots_at e sides store.made n (across_at coordinates n) (upwards_at coordinates n) ≡ point_knot_vectors e store n
 stored_knots e sides coordinates rest store held n =
@@ -54,18 +58,18 @@ row_stays e map n (suc left) more rows after h is =
     built = point_knot_vectors e (store_of map) more
 
     by_row : (rest : List PointKnots → AllKnots) → ((filled : List PointKnots) → rest filled ≡ all after → knots_in after n ≡ knots_in filled n)
-        → (listed : Bool) (outcome : Outcome) → on_all (cond listed (in_row outcome built.knots more rows) (all rows)) rest ≡ all after → knots_in after n ≡ knots_in rows n
-    by_row rest stays true Done last = stays (set rows more built.knots) last ∙ get_or-set_other rows more n built.knots no_knots (λ same. omega (arith, h, same))
-    by_row rest stays true (Refused refusal) last = cc
+        → (listed : Bool) (outcome : Result ⊤ Refusal) → on_all (cond listed (in_row outcome built.knots more rows) (all rows)) rest ≡ all after → knots_in after n ≡ knots_in rows n
+    by_row rest stays true (Ok tt) last = stays (set rows more built.knots) last ∙ get_or-set_other rows more n built.knots no_knots (λ same. omega (arith, h, same))
+    by_row rest stays true (Err refusal) last = cc
     by_row rest stays false outcome last = stays rows last
 
 -- ---- the turns, over the arrays and in the mesh that they hold
-module _ (e : Float) (kinds numbers : List ℕ) (intervals coordinates : List Float) (made : ℕ) (positions : List (List Float)) (listed : List Bool) where
+module _ (e : Float) (lent : LentMesh) where
   abbrev map : Tmesh
-  map = lent_map kinds numbers intervals coordinates made positions listed
+  map = lent_map lent
 
   abbrev mesh : Mesh
-  mesh = lent_mesh kinds numbers intervals coordinates made positions listed
+  mesh = lent_mesh lent
 
   pub filled_none : FilledTo e mesh 0
   unfolding all_knots unkept
@@ -76,23 +80,23 @@ module _ (e : Float) (kinds numbers : List ℕ) (intervals coordinates : List Fl
     filled_all h = filled.left ∙ rows_end e map n filled.rows (128 - n) (omega (arith, h))
 
     module _ (h : n < 128) where
-      pub filled_passed : listed_in listed n ≡ false → FilledTo e mesh (n + 1)
+      pub filled_passed : listed_in lent.listed n ≡ false → FilledTo e mesh (n + 1)
       unfolding unkept
       filled_passed l =
           record { rows = filled.rows; room = filled.room; left = filled.left ∙ rows_passed e map n filled.rows (128 - n) (128 - (n + 1)) (omega (arith, h)) l }
 
       -- a listed point, with its knots as they are computed over the arrays
-      module _ (built : KnotsAnswer) (k : built ≡ knots_at e (lent_sides kinds numbers intervals) made n (across_at coordinates n) (upwards_at coordinates n)) (l : listed_in listed n ≡ true) where
+      module _ (built : KnotsAnswer) (k : built ≡ lent_knots e lent n) (l : listed_in lent.listed n ≡ true) where
         stored : built ≡ point_knot_vectors e (mesh_store mesh) n
         unfolding lent_points
         stored =
-            k ∙ stored_knots e (lent_sides kinds numbers intervals) coordinates loose_points (mesh_store mesh) (mesh_held (lent_points kinds numbers intervals coordinates) made positions listed) n
+            k ∙ stored_knots e (lent_sides lent.points.sides) lent.points.coordinates loose_points (mesh_store mesh) (mesh_held (lent_points lent.points) lent.made lent.positions lent.listed) n
 
-        pub filled_refused : (refusal : Refusal) → built.outcome ≡ Refused refusal → all_knots e map ≡ none refusal
+        pub filled_refused : (refusal : Refusal) → built.outcome ≡ Err refusal → all_knots e map ≡ none refusal
         unfolding unkept
         filled_refused refusal o = filled.left ∙ rows_refused e map n filled.rows (128 - n) (128 - (n + 1)) (omega (arith, h)) built stored l refusal o
 
-        module _ (o : built.outcome ≡ Done) where
+        module _ (o : built.outcome ≡ Ok tt) where
           put : all_knots e map ≡ rows_from e map (128 - (n + 1)) (n + 1) (set filled.rows n built.knots)
           unfolding unkept
           put = filled.left ∙ rows_put e map n filled.rows (128 - n) (128 - (n + 1)) (omega (arith, h)) built stored l o

@@ -1,6 +1,6 @@
 -- Laws of an insertion into a lent mesh, by either rule on torn ones: points that hold a mesh before it hold, after it, the mesh that it leaves. Where it leaves no
 -- point, nothing else changes; else the new point's position and whether it is listed stand under its number.
-use Rattle.std.specs.Prelude.{ℕ, ◌+◌, ◌<◌, ◌≡◌, Bool, true, false, eqb, Float, length, get_or, set}
+use Rattle.std.specs.Prelude.{ℕ, ◌+◌, ◌<◌, ◌≡◌, Bool, true, false, eqb, Float, length, get_or, set, Err, Ok, Result}
 use Rattle.std.proofs.Math.Path.{refl, sym, ap}
 use Rattle.std.proofs.Common.{◌∙◌, subst, arith, eqb-true, length-set, get_or-set_same, get_or-set_other}
 use mathlib.Core.List.{List, []}
@@ -11,8 +11,7 @@ use Rattle.insertion.specs.Insert.{is_done, is_refused, insert_point}
 use Rattle.insertion.proofs.InsertLaws.{refused_same}
 use Rattle.insertion.specs.Withdrawal.{unless_withdrawn, leaves_point, store_by, InsertsBy}
 use Rattle.insertion.proofs.WithdrawalLaws.{none_stands, leaves_stands, leaves_not_refused}
-use Rattle.insertion.specs.declared.insertion.InsertAnswer.{InsertAnswer}
-use Rattle.insertion.specs.declared.insertion.InsertAnswer.TheVariants.{Done, Torn, Refused}
+use Rattle.insertion.specs.declared.insertion.Insertion.TheVariants.{Done, Torn}
 use Rattle.insertion.specs.declared.insertion.Inserted.{Inserted}
 use Rattle.lent_points.specs.Lent.{Points, Held}
 use Rattle.lent_points.proofs.LentLaws.{true_false}
@@ -27,6 +26,8 @@ use Rattle.values.specs.Values.{values_from}
 use Rattle.values.proofs.ValuesLaws.{values_length, values_at, values_are}
 use Rattle.lent_mesh.specs.LentMesh.{row_of, row_position, unpulled_at, mesh_over}
 use Rattle.lent_mesh.proofs.LentMeshLaws.{loose_points, mesh_held, held_same}
+use Rattle.control_point.specs.declared.refusal.Refusal.{Refusal}
+use Rattle.insertion.specs.declared.insertion.Insertion.{Insertion}
 
 -- ---- a row stored anew is its place stored anew
 module _ (positions : List (List Float)) (room : length positions ≡ 128) (n : ℕ) (h : n < 128) (position : Position) where
@@ -59,14 +60,14 @@ module _ (positions : List (List Float)) (room : length positions ≡ 128) (n : 
 -- ---- an insertion
 -- what an insertion into points is to the mesh that they held: the answer is the mesh's; where it leaves no point, they hold the mesh that it leaves; else there
 -- was room for the new point, and with its row and whether it is listed they hold that mesh
-pub record InsertsIntoMesh (withdraws : Bool) (e : Float) (points : Points) (made : ℕ) (positions : List (List Float)) (listed : List Bool) (con : ℕ) (d : TmeshDirection) (ratio : Float) (position : Position) (answer : InsertAnswer) (after : Points) : Type 0 where
+pub record InsertsIntoMesh (withdraws : Bool) (e : Float) (points : Points) (made : ℕ) (positions : List (List Float)) (listed : List Bool) (con : ℕ) (d : TmeshDirection) (ratio : Float) (position : Position) (answer : Result Insertion Refusal) (after : Points) : Type 0 where
   pub answered : answer ≡ (mesh_by_rule withdraws e (mesh_over points made positions listed) con d ratio position).answer
   pub unplaced : leaves_point withdraws answer ≡ false → mesh_over after made positions listed ≡ (mesh_by_rule withdraws e (mesh_over points made positions listed) con d ratio position).mesh
   pub room : leaves_point withdraws answer ≡ true → made < 128
   pub placed : leaves_point withdraws answer ≡ true → length positions ≡ 128 → (row : List Float) → row ≡ row_of position → (done : Bool) → done ≡ is_done answer
       → mesh_over after (made + 1) (set positions made row) (set listed made done) ≡ (mesh_by_rule withdraws e (mesh_over points made positions listed) con d ratio position).mesh
 
-module _ (withdraws : Bool) (e : Float) (points : Points) (made : ℕ) (positions : List (List Float)) (listed : List Bool) (con : ℕ) (d : TmeshDirection) (ratio : Float) (position : Position) (answer : InsertAnswer) (after : Points)
+module _ (withdraws : Bool) (e : Float) (points : Points) (made : ℕ) (positions : List (List Float)) (listed : List Bool) (con : ℕ) (d : TmeshDirection) (ratio : Float) (position : Position) (answer : Result Insertion Refusal) (after : Points)
     (inserts : InsertsBy withdraws e points made (listed_in listed con) con d ratio answer after) where
   abbrev mesh : Mesh
   mesh = mesh_over points made positions listed
@@ -78,10 +79,10 @@ module _ (withdraws : Bool) (e : Float) (points : Points) (made : ℕ) (position
   held_after = inserts loose_points (mesh_store mesh) (mesh_held points made positions listed) refl
 
   -- ---- no point stands
-  store_kept : (a : InsertAnswer) → a ≡ inserted.answer → is_refused a ≡ true → inserted.store ≡ mesh_store mesh
-  store_kept (Refused refusal) is h = refused_same e (mesh_store mesh) (listed_in listed con) con d ratio refusal (sym is)
-  store_kept (Done opened inferred) is h = absurd (true_false (sym h))
-  store_kept (Torn opened inferred) is h = absurd (true_false (sym h))
+  store_kept : (a : Result Insertion Refusal) → a ≡ inserted.answer → is_refused a ≡ true → inserted.store ≡ mesh_store mesh
+  store_kept (Err refusal) is h = refused_same e (mesh_store mesh) (listed_in listed con) con d ratio refusal (sym is)
+  store_kept (Ok (Done opened inferred)) is h = absurd (true_false (sym h))
+  store_kept (Ok (Torn opened inferred)) is h = absurd (true_false (sym h))
 
   mesh_kept : leaves_point withdraws answer ≡ false → mesh_over after made positions listed ≡ (mesh_by_rule withdraws e mesh con d ratio position).mesh
   unfolding insert_into_mesh

@@ -6,6 +6,7 @@ use Rattle.std.specs.Float.{nan}
 use Rattle.float64.specs.Literals.{zero_literal}
 use Rattle.control_point.specs.Point.{is_made, loose_point}
 use Rattle.lent_points.specs.Lent.{Points, lent_points, Room}
+use Rattle.lent_mesh.specs.declared.LentMesh.{LentMesh}
 use Rattle.values.specs.Values.{values_from}
 use Rattle.t_mesh.specs.Tmesh.{unpulled, blank_knots, blank_index}
 use Rattle.t_mesh.specs.declared.t_mesh.Mesh.{Mesh}
@@ -44,8 +45,8 @@ mesh_over points made positions listed =
       listed = listed;
     }
 
-abbrev pub lent_mesh : List ℕ → List ℕ → List Float → List Float → ℕ → List (List Float) → List Bool → Mesh
-lent_mesh kinds numbers intervals coordinates made positions listed = mesh_over (lent_points kinds numbers intervals coordinates) made positions listed
+abbrev pub lent_mesh : LentMesh → Mesh
+lent_mesh mesh = mesh_over (lent_points mesh.points) mesh.made mesh.positions mesh.listed
 
 -- ---- its map
 -- a mesh as a map that keeps no knots and no index
@@ -53,10 +54,9 @@ unfoldable pub unkept : Mesh → Tmesh
 unkept mesh = record { mesh = mesh; kept = false; knots = replicate 128 blank_knots; index = blank_index }
 
 -- the map that the arrays hold
-abbrev pub lent_map : List ℕ → List ℕ → List Float → List Float → ℕ → List (List Float) → List Bool → Tmesh
-lent_map kinds numbers intervals coordinates made positions listed = unkept (lent_mesh kinds numbers intervals coordinates made positions listed)
+abbrev pub lent_map : LentMesh → Tmesh
+lent_map mesh = unkept (lent_mesh mesh)
 
 -- ---- the arrays have their lengths
-abbrev pub MeshRoom : List ℕ → List ℕ → List Float → List Float → List (List Float) → List Bool → Type 0
-MeshRoom kinds numbers intervals coordinates positions listed =
-    Room kinds numbers intervals coordinates × ((length positions ≡ 128) × (length listed ≡ 128))
+abbrev pub MeshRoom : LentMesh → Type 0
+MeshRoom mesh = Room mesh.points × ((length mesh.positions ≡ 128) × (length mesh.listed ≡ 128))

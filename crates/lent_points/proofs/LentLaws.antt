@@ -16,6 +16,7 @@ use Rattle.control_point.specs.declared.t_mesh_direction.TmeshDirection.TheVaria
 use Rattle.store.specs.Store.{store_sides, store_point, with_point, with_side_at, with_new, linked, coordinated}
 use Rattle.store.proofs.StoreLaws.{side_read}
 use Rattle.store.specs.declared.store.Store.{Store}
+use Rattle.lent_points.specs.declared.LentPoints.{LentPoints}
 use Rattle.lent_points.specs.Lent.{Points, points_with, points_with_side, points_linked, across_at, upwards_at, coordinates_with, points_from, lent_points, Held, FilledTo}
 
 -- ---- the coordinates after a store
@@ -102,13 +103,14 @@ module _ (sides : Sides) (coordinates : List Float) (n : ℕ) where
             ap (λ (u : Float). coordinated (before m) u (upwards_at (coordinates_with coordinates n p.s p.t) m)) (across_other coordinates full n h p.s p.t m (eqb-false m n x))
             ∙ ap (coordinated (before m) (across_at coordinates m)) (upwards_other coordinates full n h p.s p.t m (eqb-false m n x))
 
--- as the arrays hold them
-pub lent_side : (kinds numbers kinds' numbers' : List ℕ) (intervals intervals' coordinates : List Float) (n : ℕ) (d : TmeshDirection) (side : Side)
-    → lent_sides kinds' numbers' intervals' ≡ sides_with (lent_sides kinds numbers intervals) n d side
-    → lent_points kinds' numbers' intervals' coordinates ≡ points_with_side (lent_points kinds numbers intervals coordinates) n d side
+-- as the arrays hold them: a change of the sides alone
+pub lent_side : (before after : LentPoints) (n : ℕ) (d : TmeshDirection) (side : Side) → after.coordinates ≡ before.coordinates → lent_sides after.sides ≡ sides_with (lent_sides before.sides) n d side
+    → lent_points after ≡ points_with_side (lent_points before) n d side
 unfolding lent_points
-lent_side kinds numbers kinds' numbers' intervals intervals' coordinates n d side put =
-    ap (λ (sides : Sides). points_from sides coordinates) put ∙ from_side (lent_sides kinds numbers intervals) coordinates n d side
+lent_side before after n d side same put =
+    ap (points_from (lent_sides after.sides)) same
+    ∙ ap (λ (sides : Sides). points_from sides before.coordinates) put
+    ∙ from_side (lent_sides before.sides) before.coordinates n d side
 
 -- of two points put under one number the second stands
 with_twice : (points : Points) (n : ℕ) (p q : TmeshControlPoint) → points_with (points_with points n p) n q ≡ points_with points n q
@@ -120,11 +122,11 @@ with_twice points n p q = λ i m. by_test (eqb m n) (points m) i
 
 -- ---- two points linked
 module _ (sides : Sides) (coordinates : List Float) (full : length coordinates ≡ 256) (first other : ℕ) (h : other < 128) (apart : other ≡ first → ⊥) (d : TmeshDirection) (interval : Float) where
-  abbrev points : Points
-  points = points_from sides coordinates
+  abbrev unlinked : Points
+  unlinked = points_from sides coordinates
 
   abbrev once : Points
-  once = points_with_side points first d (Link other interval)
+  once = points_with_side unlinked first d (Link other interval)
 
   abbrev end : TmeshControlPoint
   end = with_side (once other) (flip_of d) (Link first interval)
@@ -136,7 +138,7 @@ module _ (sides : Sides) (coordinates : List Float) (full : length coordinates �
   t = moved_upwards (upwards_at coordinates first) d interval
 
   pub from_linked : points_from (sides_with (sides_with sides first d (Link other interval)) other (flip_of d) (Link first interval)) (coordinates_with coordinates other s t)
-      ≡ points_linked points first other d interval
+      ≡ points_linked unlinked first other d interval
   from_linked =
       from_coordinates (sides_with (sides_with sides first d (Link other interval)) other (flip_of d) (Link first interval)) coordinates other full h s t
       ∙ ap (λ (ps : Points). points_with ps other (coordinated (ps other) s t))
@@ -144,7 +146,7 @@ module _ (sides : Sides) (coordinates : List Float) (full : length coordinates �
       ∙ ap (λ (ps : Points). points_with_side ps other (flip_of d) (Link first interval)) (from_side sides coordinates first d (Link other interval)))
       ∙ with_twice once other end (coordinated (points_with once other end other) s t)
       ∙ ap (λ (b : Bool). points_with once other (coordinated (cond b end (once other)) s t)) (eq-eqb other other refl)
-      ∙ ap (λ (b : Bool). points_with once other (moved_from (with_side (cond b (with_side (points first) d (Link other interval)) (points other)) (flip_of d) (Link first interval)) (points first) d interval))
+      ∙ ap (λ (b : Bool). points_with once other (moved_from (with_side (cond b (with_side (unlinked first) d (Link other interval)) (unlinked other)) (flip_of d) (Link first interval)) (unlinked first) d interval))
       (ne_eqb other first apart)
 
 -- ---- a store's points held, through each change of it

@@ -10,6 +10,7 @@ use Rattle.control_point.specs.declared.t_mesh_control_point.Side.TheVariants.{L
 use Rattle.control_point.specs.declared.t_mesh_control_point.TmeshControlPoint.{TmeshControlPoint}
 use Rattle.control_point.specs.declared.t_mesh_direction.TmeshDirection.{TmeshDirection}
 use Rattle.control_point.specs.declared.t_mesh_direction.TmeshDirection.TheVariants.{Up, Right, Down, Left}
+use Rattle.lent_points.specs.declared.LentPoints.{LentPoints}
 use Rattle.store.specs.Store.{store_point}
 use Rattle.store.specs.declared.store.Store.{Store}
 
@@ -55,12 +56,12 @@ points_from sides coordinates n =
       t = upwards_at coordinates n;
     }
 
-unfoldable pub lent_points : List ℕ → List ℕ → List Float → List Float → Points
-lent_points kinds numbers intervals coordinates = points_from (lent_sides kinds numbers intervals) coordinates
+unfoldable pub lent_points : LentPoints → Points
+lent_points points = points_from (lent_sides points.sides) points.coordinates
 
 -- they have their lengths
-abbrev pub Room : List ℕ → List ℕ → List Float → List Float → Type 0
-Room kinds numbers intervals coordinates = Full kinds numbers intervals × (length coordinates ≡ 256)
+abbrev pub Room : LentPoints → Type 0
+Room points = Full points.sides × (length points.coordinates ≡ 256)
 
 -- ---- a store's points, as lent: the made ones, and beyond those a list's
 pub record Held (points : Points) (rest : List TmeshControlPoint) (store : Store) : Type 0 where

@@ -1,13 +1,11 @@
 -- Laws of a lent map: what the arrays hold once each point stands in them, that they hold the map that was lent, and its sums from there.
-use Rattle.std.specs.Prelude.{ℕ, zero, suc, ◌<◌, ◌≡◌, Bool, List, [], ◌∷◌, map, Float, length, get_or, replicate}
+use Rattle.std.specs.Prelude.{ℕ, zero, suc, ◌<◌, ◌≡◌, Bool, List, [], ◌∷◌, map, Float, length, get_or, replicate, Err, Ok, Result, ⊤}
 use Rattle.std.proofs.Math.Path.{refl, ap}
 use Rattle.std.proofs.Common.{sym, ◌∙◌, arith}
 use Rattle.std.proofs.lemmas.List.{length-map, length-replicate}
 use Rattle.std.proofs.Math.ListN.{get_or-map}
 use Rattle.float64.specs.Literals.{zero_literal}
 use Rattle.control_point.specs.Told.{outcome_told, tells, refused_or}
-use Rattle.control_point.specs.declared.refusal.Outcome.{Outcome}
-use Rattle.control_point.specs.declared.refusal.Outcome.TheVariants.{Done, Refused}
 use Rattle.control_point.specs.declared.refusal.Refusal.{Refusal}
 use Rattle.values.proofs.ValuesLaws.{values_at, values_are, StoredTo, stored_all}
 use Rattle.ray.specs.declared.knots.PointKnots.{PointKnots}
@@ -92,22 +90,22 @@ lent_value own s t =
 -- ---- what `lend` gives
 module _ (e : Float) (own : Tmesh) where
   module _ (built : Generated) (arrays : LentArrays) (is : built ≡ with_knots e own) where
-    lend_by : (outcome : Outcome) → built.outcome ≡ outcome → arrays ≡ lent_after outcome built.map → (built, arrays) ≡ lend_of e own
+    lend_by : (outcome : Result ⊤ Refusal) → built.outcome ≡ outcome → arrays ≡ lent_after outcome built.map → (built, arrays) ≡ lend_of e own
     unfolding lend_of
     lend_by outcome o a =
-        ap (λ (x : LentArrays). (built, x)) (a ∙ ap (λ (x : Outcome). lent_after x built.map) (sym o))
+        ap (λ (x : LentArrays). (built, x)) (a ∙ ap (λ (x : Result ⊤ Refusal). lent_after x built.map) (sym o))
         ∙ ap (λ (x : Generated). (x, lent_after x.outcome x.map)) is
 
-    pub lend_done : built.outcome ≡ Done → arrays ≡ lent_of built.map → (built, arrays) ≡ lend_of e own
-    lend_done o a = lend_by Done o a
+    pub lend_done : built.outcome ≡ Ok tt → arrays ≡ lent_of built.map → (built, arrays) ≡ lend_of e own
+    lend_done o a = lend_by (Ok tt) o a
 
-    pub lend_refused : (refusal : Refusal) → built.outcome ≡ Refused refusal → arrays ≡ none_lent → (built, arrays) ≡ lend_of e own
-    lend_refused refusal o a = lend_by (Refused refusal) o a
+    pub lend_refused : (refusal : Refusal) → built.outcome ≡ Err refusal → arrays ≡ none_lent → (built, arrays) ≡ lend_of e own
+    lend_refused refusal o a = lend_by (Err refusal) o a
 
   pub lend_told : outcome_told (lend_of e own).0.outcome ≡ lend_table e own
   unfolding lend_of
   lend_told = outcome_told_lem (with_knots e own).outcome ∙ with_knots_told e own (λ kept. tells [])
     where
-      outcome_told_lem : (outcome : Outcome) → outcome_told outcome ≡ refused_or outcome (tells [])
-      outcome_told_lem Done = refl
-      outcome_told_lem (Refused refusal) = refl
+      outcome_told_lem : (outcome : Result ⊤ Refusal) → outcome_told outcome ≡ refused_or outcome (tells [])
+      outcome_told_lem (Ok tt) = refl
+      outcome_told_lem (Err refusal) = refl

@@ -1,12 +1,10 @@
 -- A map lent for evaluation: of each point its knots across, its knots upwards, its place (its position and its pull) and whether it is listed, each in an array of its
 -- own. A map is lent with its knots kept, those that it keeps or those built, as `subs` has them; where building them is refused nothing is
 -- lent. e is the closeness.
-use Rattle.std.specs.Prelude.{ℕ, Bool, true, false, List, [], ◌∷◌, map, ◌≡◌, Float, length, get_or, replicate}
+use Rattle.std.specs.Prelude.{ℕ, Bool, true, false, List, [], ◌∷◌, map, ◌≡◌, Float, length, get_or, replicate, Err, Ok, Result, ⊤}
 use Rattle.std.specs.Float.{nan}
 use Rattle.float64.specs.Literals.{zero_literal}
 use Rattle.control_point.specs.Told.{Told, tells}
-use Rattle.control_point.specs.declared.refusal.Outcome.{Outcome}
-use Rattle.control_point.specs.declared.refusal.Outcome.TheVariants.{Done, Refused}
 use Rattle.store.specs.Store.{empty_store}
 use Rattle.values.specs.Values.{values_from}
 use Rattle.grid_index.specs.Index.{index_of}
@@ -16,6 +14,7 @@ use Rattle.t_mesh.specs.declared.t_mesh.Place.{Place}
 use Rattle.t_mesh.specs.declared.t_mesh.Tmesh.{Tmesh}
 use Rattle.knot_vectors.specs.declared.knots.Generated.{Generated}
 use Rattle.surface.specs.Evaluation.{with_knots, with_knots_table}
+use Rattle.control_point.specs.declared.refusal.Refusal.{Refusal}
 
 -- ---- places
 -- a place as a row: x, y and z in turn, then the pull
@@ -69,9 +68,9 @@ lent_of own = lent (map (λ k. k.s) own.knots) (map (λ k. k.t) own.knots) (map 
 unfoldable pub none_lent : LentArrays
 none_lent = lent (replicate 128 (replicate 5 zero_literal)) (replicate 128 (replicate 5 zero_literal)) (replicate 128 (replicate 4 zero_literal)) (replicate 128 false)
 
-abbrev pub lent_after : Outcome → Tmesh → LentArrays
-lent_after Done own = lent_of own
-lent_after (Refused refusal) own = none_lent
+abbrev pub lent_after : Result ⊤ Refusal → Tmesh → LentArrays
+lent_after (Ok tt) own = lent_of own
+lent_after (Err refusal) own = none_lent
 
 -- the map with its knots kept, or why there are none and the map as it was; and the arrays
 unfoldable pub lend_of : Float → Tmesh → Generated × LentArrays

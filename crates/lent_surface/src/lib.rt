@@ -8,7 +8,6 @@ ghost use Rattle.surface.specs.Evaluation.{share_by, value_of};
 ghost use Rattle.lent_surface.specs.Lent.{place_row, lent_place, Full, lent, lent_knots, held_map, lent_of, none_lent, lend_of, lend_table};
 
 use basis::basis_function;
-use control_point::refusal::Outcome;
 use kept_knots::with_knots;
 use knot_vectors::knots::Generated;
 use ray::knots::PointKnots;
@@ -67,10 +66,8 @@ fn lend_all(
     let listing = map.mesh.listed;
     *listed = listing;
     let own = map.mesh.places;
-    let mut n: usize = 0;
-    while n < 128 {
+    for n in 0..128usize {
         lend_point(across, upwards, places, n, map.knots[n], own[n]);
-        n += 1;
     }
 }
 
@@ -88,7 +85,7 @@ pub fn lend(
     lend_none(across, upwards, places, listed);
     let built = with_knots(map);
     let outcome = built.outcome;
-    if let Outcome::Refused(_) = outcome {
+    if let Err(_) = outcome {
         return built;
     }
     lend_all(across, upwards, places, listed, built.map);
@@ -132,8 +129,7 @@ pub fn lent_value<'a>(
     let mut y = 0.0;
     let mut z = 0.0;
     let mut weight = 0.0;
-    let mut n: usize = 0;
-    while n < 128 {
+    for n in 0..128usize {
         if listed[n] {
             let share = lent_share(across, upwards, places, n, s, t);
             x = x + share.x;
@@ -141,7 +137,6 @@ pub fn lent_value<'a>(
             z = z + share.z;
             weight = weight + share.weight;
         }
-        n += 1;
     }
     Evaluation {
         x: x / weight,

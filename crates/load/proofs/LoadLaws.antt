@@ -1,6 +1,6 @@
 -- Laws of specs/Load.antt: how many edits there are and one edit more; what holds of each answer of a call holds of the one that it gives; and for each way that its tests go, what it answers, what it
 -- leaves and what it tells.
-use Rattle.std.specs.Prelude.{ℕ, zero, suc, ◌+◌, ◌-◌, ◌≤◌, ◌<◌, ◌≡◌, Bool, true, false, not, cond, List, [], ◌∷◌, ◌++◌, leb, eqb, length}
+use Rattle.std.specs.Prelude.{ℕ, zero, suc, ◌+◌, ◌*◌, ◌-◌, ◌≤◌, ◌<◌, ◌≡◌, Bool, true, false, not, cond, List, [], ◌∷◌, ◌++◌, leb, eqb, length, Err, Ok, Result}
 use Rattle.std.proofs.Math.Path.{refl}
 use Rattle.std.proofs.Common.{sym, ap, ◌∙◌, add-one, arith}
 use borrow.Author.Tests.{le-leb, lt-leb, leb-true, leb-false, eq-eqb, ne_eqb}
@@ -14,9 +14,8 @@ use Rattle.map_format.specs.Format.{edits_at, edit_bytes, most_edits, bytes_of_e
 use Rattle.map_writing.specs.Answer.{write_told, bytes_written, buffer_with}
 use Rattle.map_writing.proofs.AnswerLaws.{Gives, due_gives}
 use Rattle.map_writing.proofs.LengthLaws.{length_edit, length_front}
-use Rattle.map_writing.specs.declared.WriteAnswer.{WriteAnswer}
-use Rattle.map_writing.specs.declared.WriteAnswer.TheVariants.{Is, Refused}
 use Rattle.load.specs.Load.{load_head, drawn_edit, drawn_edits, load_file, load_answer, load_buffer, load_table, asked_bytes, asked_seed, asked_count, asked_answer, asked_table}
+use Rattle.control_point.specs.declared.refusal.Refusal.{Refusal}
 
 -- ---- the edits
 pub length_drawn : (count state : ℕ) → length (drawn_edits count state) ≡ count
@@ -24,15 +23,20 @@ unfolding drawn_edits
 length_drawn zero state = refl
 length_drawn (suc count) state = ap suc (length_drawn count (later_draw 6 state))
 
--- the first is written, and the others behind it
-pub put_more : (buffer : List ℕ) (at left state : ℕ) → 0 < left
-    → written (written buffer at (bytes_of_edit (drawn_edit state))) (at + edit_bytes) (bytes_of_edits (drawn_edits (left - 1) (later_draw 6 state)))
-    ≡ written buffer at (bytes_of_edits (drawn_edits left state))
+-- of those from number n on the first is written, and the others behind it
+pub put_more : (buffer : List ℕ) (n count state : ℕ) → n < count
+    → written (written buffer (edits_at + n * edit_bytes) (bytes_of_edit (drawn_edit state))) (edits_at + (n + 1) * edit_bytes) (bytes_of_edits (drawn_edits (count - (n + 1)) (later_draw 6 state)))
+    ≡ written buffer (edits_at + n * edit_bytes) (bytes_of_edits (drawn_edits (count - n) state))
 unfolding drawn_edits bytes_of_edits
-put_more buffer at left state some =
-    let back : suc (left - 1) ≡ left = omega (arith, add-one (left - 1)) in
-    sym (written_part buffer at edit_bytes (bytes_of_edit (drawn_edit state)) (bytes_of_edits (drawn_edits (left - 1) (later_draw 6 state))) (length_edit (drawn_edit state)))
-    ∙ ap (λ (n : ℕ). written buffer at (bytes_of_edits (drawn_edits n state))) back
+put_more buffer n count state some =
+    let at = edits_at + n * edit_bytes in
+    let first = bytes_of_edit (drawn_edit state) in
+    let others = bytes_of_edits (drawn_edits (count - (n + 1)) (later_draw 6 state)) in
+    let next : edits_at + (n + 1) * edit_bytes ≡ at + edit_bytes = omega arith in
+    let back : suc (count - (n + 1)) ≡ count - n = omega (arith, add-one (count - (n + 1))) in
+    ap (λ (place : ℕ). written (written buffer at first) place others) next
+    ∙ sym (written_part buffer at edit_bytes first others (length_edit (drawn_edit state)))
+    ∙ ap (λ (left : ℕ). written buffer at (bytes_of_edits (drawn_edits left state))) back
 
 -- the front, and all edits behind it
 put_file : (seed count : ℕ) (buffer : List ℕ)
@@ -44,9 +48,9 @@ put_file seed count buffer =
     ∙ ap (λ (n : ℕ). written buffer 0 (front_of n load_head ++ bytes_of_edits edits)) (sym (length_drawn count seed))
 
 -- ---- what holds of each answer
-module _ (seed count room : ℕ) (P : WriteAnswer → Type 0) where
-  pub load_case : P (Refused Seed) → P (Refused TooMany) → (count ≤ most_edits → room < file_length count → P (Refused Short))
-      → (count ≤ most_edits → file_length count ≤ room → P (Is (file_length count))) → P (load_answer seed count room)
+module _ (seed count room : ℕ) (P : Result ℕ Refusal → Type 0) where
+  pub load_case : P (Err Seed) → P (Err TooMany) → (count ≤ most_edits → room < file_length count → P (Err Short))
+      → (count ≤ most_edits → file_length count ≤ room → P (Ok (file_length count))) → P (load_answer seed count room)
   unfolding load_answer
   load_case no_seed too_many short in_full =
       cond_case (not (eqb seed 0)) P _ _
@@ -58,7 +62,7 @@ module _ (seed count room : ℕ) (P : WriteAnswer → Type 0) where
       (λ many. too_many))
       (λ none. no_seed)
 
-pub asked_case : (input : List ℕ) (room : ℕ) (P : WriteAnswer → Type 0) → P (Refused Length) → P (load_answer (asked_seed input) (asked_count input) room) → P (asked_answer input room)
+pub asked_case : (input : List ℕ) (room : ℕ) (P : Result ℕ Refusal → Type 0) → P (Err Length) → P (load_answer (asked_seed input) (asked_count input) room) → P (asked_answer input room)
 unfolding asked_answer
 asked_case input room P wrong right = cond_case (eqb (length input) asked_bytes) P _ _ (λ _. right) (λ _. wrong)
 
@@ -75,7 +79,7 @@ unfolding load_answer
 load_told seed count room = by_tests (not (eqb seed 0)) (leb count most_edits) (leb (file_length count) room)
   where
     by_tests : (some few fits : Bool)
-        → write_told (cond some (cond few (cond fits (Is (file_length count)) (Refused Short)) (Refused TooMany)) (Refused Seed))
+        → write_told (cond some (cond few (cond fits (Ok (file_length count)) (Err Short)) (Err TooMany)) (Err Seed))
         ≡ unless 21 some (unless 22 few (unless 16 fits (tells (natural (file_length count) ∷ []))))
     by_tests true true true = refl
     by_tests true true false = refl
@@ -83,36 +87,36 @@ load_told seed count room = by_tests (not (eqb seed 0)) (leb count most_edits) (
     by_tests false few fits = refl
 
 -- what a call gives: its answer, the buffer that it leaves, and what it tells
-abbrev pub LoadGives : ℕ → ℕ → List ℕ → WriteAnswer → List ℕ → Type 0
+abbrev pub LoadGives : ℕ → ℕ → List ℕ → Result ℕ Refusal → List ℕ → Type 0
 LoadGives seed count buffer = Gives (load_file seed count) buffer (load_answer seed count (length buffer)) (load_table seed count (length buffer))
 
 module _ (seed count : ℕ) (buffer : List ℕ) where
   -- by the answer that is due
-  load_gives : (answer : WriteAnswer) → answer ≡ load_answer seed count (length buffer) → LoadGives seed count buffer answer (buffer_with (load_file seed count) answer buffer)
+  load_gives : (answer : Result ℕ Refusal) → answer ≡ load_answer seed count (length buffer) → LoadGives seed count buffer answer (buffer_with (load_file seed count) answer buffer)
   load_gives = due_gives (load_file seed count) buffer (load_answer seed count (length buffer)) (load_table seed count (length buffer)) (load_told seed count (length buffer))
 
-  pub no_seed : seed ≡ 0 → LoadGives seed count buffer (Refused Seed) buffer
+  pub no_seed : seed ≡ 0 → LoadGives seed count buffer (Err Seed) buffer
   unfolding load_answer
-  no_seed none = load_gives (Refused Seed) (rw (eq-eqb seed 0 none) refl)
+  no_seed none = load_gives (Err Seed) (rw (eq-eqb seed 0 none) refl)
 
-  pub too_many : (seed ≡ 0 → ⊥) → most_edits < count → LoadGives seed count buffer (Refused TooMany) buffer
+  pub too_many : (seed ≡ 0 → ⊥) → most_edits < count → LoadGives seed count buffer (Err TooMany) buffer
   unfolding load_answer
-  too_many some many = load_gives (Refused TooMany) (rw (ne_eqb seed 0 some, lt-leb count most_edits many) refl)
+  too_many some many = load_gives (Err TooMany) (rw (ne_eqb seed 0 some, lt-leb count most_edits many) refl)
 
   -- by the file's length that is at hand
   module _ (some : seed ≡ 0 → ⊥) (few : count ≤ most_edits) (bytes : ℕ) (is-length : bytes ≡ file_length count) where
-    pub too_short : length buffer < bytes → LoadGives seed count buffer (Refused Short) buffer
+    pub too_short : length buffer < bytes → LoadGives seed count buffer (Err Short) buffer
     unfolding load_answer
     too_short short =
-        load_gives (Refused Short) (rw (ne_eqb seed 0 some, le-leb count most_edits few, lt-leb (file_length count) (length buffer) (rw is-length at short)) refl)
+        load_gives (Err Short) (rw (ne_eqb seed 0 some, le-leb count most_edits few, lt-leb (file_length count) (length buffer) (rw is-length at short)) refl)
 
     pub in_full : bytes ≤ length buffer
-        → LoadGives seed count buffer (Is bytes) (written (written buffer 0 (front_of count load_head)) edits_at (bytes_of_edits (drawn_edits count seed)))
+        → LoadGives seed count buffer (Ok bytes) (written (written buffer 0 (front_of count load_head)) edits_at (bytes_of_edits (drawn_edits count seed)))
     unfolding load_answer
     in_full room =
-        let due : Is bytes ≡ load_answer seed count (length buffer) =
+        let due : Ok bytes ≡ load_answer seed count (length buffer) =
         rw (is-length, ne_eqb seed 0 some, le-leb count most_edits few, le-leb (file_length count) (length buffer) (rw is-length at room)) refl in
-        let gives = load_gives (Is bytes) due in
+        let gives = load_gives (Ok bytes) due in
         (gives.0, (put_file seed count buffer ∙ gives.1.0, gives.1.1))
 
 -- ---- what the program is asked for
@@ -121,28 +125,28 @@ unfolding asked_answer
 asked_told input room = by_test (eqb (length input) asked_bytes)
   where
     by_test : (right : Bool)
-        → write_told (cond right (load_answer (asked_seed input) (asked_count input) room) (Refused Length)) ≡ unless 12 right (load_table (asked_seed input) (asked_count input) room)
+        → write_told (cond right (load_answer (asked_seed input) (asked_count input) room) (Err Length)) ≡ unless 12 right (load_table (asked_seed input) (asked_count input) room)
     by_test true = load_told (asked_seed input) (asked_count input) room
     by_test false = refl
 
-abbrev pub AskedGives : List ℕ → List ℕ → WriteAnswer → List ℕ → Type 0
+abbrev pub AskedGives : List ℕ → List ℕ → Result ℕ Refusal → List ℕ → Type 0
 AskedGives input buffer = Gives (load_file (asked_seed input) (asked_count input)) buffer (asked_answer input (length buffer)) (asked_table input (length buffer))
 
 module _ (input buffer : List ℕ) where
-  asked_gives : (answer : WriteAnswer) → answer ≡ asked_answer input (length buffer)
+  asked_gives : (answer : Result ℕ Refusal) → answer ≡ asked_answer input (length buffer)
       → AskedGives input buffer answer (buffer_with (load_file (asked_seed input) (asked_count input)) answer buffer)
   asked_gives =
       due_gives (load_file (asked_seed input) (asked_count input)) buffer (asked_answer input (length buffer)) (asked_table input (length buffer)) (asked_told input (length buffer))
 
-  pub asked_wrongly : (length input ≡ asked_bytes → ⊥) → AskedGives input buffer (Refused Length) buffer
+  pub asked_wrongly : (length input ≡ asked_bytes → ⊥) → AskedGives input buffer (Err Length) buffer
   unfolding asked_answer
-  asked_wrongly wrong = asked_gives (Refused Length) (rw (ne_eqb (length input) asked_bytes wrong) refl)
+  asked_wrongly wrong = asked_gives (Err Length) (rw (ne_eqb (length input) asked_bytes wrong) refl)
 
   -- then it is the load of that seed and count
-  pub asked_rightly_lem : length input ≡ asked_bytes → (seed count : ℕ) → seed ≡ asked_seed input → count ≡ asked_count input → (answer : WriteAnswer) (after : List ℕ)
+  pub asked_rightly_lem : length input ≡ asked_bytes → (seed count : ℕ) → seed ≡ asked_seed input → count ≡ asked_count input → (answer : Result ℕ Refusal) (after : List ℕ)
       → answer ≡ load_answer seed count (length buffer) → after ≡ load_buffer seed count buffer → AskedGives input buffer answer after
   unfolding asked_answer
   asked_rightly_lem right seed count is-seed is-count answer after is left =
       let due : load_answer seed count (length buffer) ≡ asked_answer input (length buffer) = rw (is-seed, is-count, eq-eqb (length input) asked_bytes right) refl in
       let gives = asked_gives answer (is ∙ due) in
-      (gives.0, (left ∙ rw (is-seed, is-count) (ap (λ (a : WriteAnswer). buffer_with (load_file (asked_seed input) (asked_count input)) a buffer) (rw (is-seed, is-count) at due)), gives.1.1))
+      (gives.0, (left ∙ rw (is-seed, is-count) (ap (λ (a : Result ℕ Refusal). buffer_with (load_file (asked_seed input) (asked_count input)) a buffer) (rw (is-seed, is-count) at due)), gives.1.1))

@@ -1,5 +1,5 @@
 -- A load is the file of a head and edits, so that what is written is read; its floats are drawn, and each is so many of 1,024 parts of 1.
-use Rattle.std.specs.Prelude.{ℕ, zero, suc, ◌≤◌, ◌<◌, ◌≡◌, refl, Bool, true, false, not, cond, ◌&&◌, List, [], ◌++◌, leb, eqb, length, take, drop}
+use Rattle.std.specs.Prelude.{ℕ, zero, suc, ◌≤◌, ◌<◌, ◌≡◌, refl, Bool, true, false, not, cond, ◌&&◌, List, [], ◌++◌, leb, eqb, length, take, drop, Err, Ok, Result}
 use Rattle.std.proofs.Common.{sym, ap, ◌∙◌, subst, arith, le-leb, leb-true}
 use Rattle.std.specs.Float.{binary64}
 use Rattle.std.specs.Float.Ieee.{of_bits, le}
@@ -8,7 +8,6 @@ use Rattle.std.proofs.Math.Seq.{take-append_seam}
 use Rattle.big_endian.proofs.WrittenLaws.{written_front}
 use Rattle.control_point.specs.declared.refusal.Refusal.{Refusal}
 use Rattle.control_point.specs.declared.refusal.Refusal.TheVariants.{Length, Short, Seed, TooMany}
-use Rattle.counted_file.specs.declared.FileCheck.TheVariants.{Valid}
 use Rattle.draw.specs.Draw.{later_draw, drawn_float}
 use Rattle.draw.proofs.DrawLaws.{in_parts_fits}
 use Rattle.draw.proofs.TheoremsProof.{drawn_float_is_exact}
@@ -21,8 +20,6 @@ use Rattle.map_writing.specs.Answer.{write_told, bytes_written, buffer_with}
 use Rattle.map_writing.proofs.LengthLaws.{length_file}
 use Rattle.map_writing.specs.Theorems.{FitPosition, FitEdits, FitHead}
 use Rattle.map_writing.proofs.TheoremsProof.{written_is_read}
-use Rattle.map_writing.specs.declared.WriteAnswer.{WriteAnswer}
-use Rattle.map_writing.specs.declared.WriteAnswer.TheVariants.{Is, Refused}
 use Rattle.t_mesh.specs.declared.t_mesh.Position.{Position}
 use Rattle.load.specs.Load.{load_head, drawn_edit, drawn_edits, load_file, load_answer, asked_bytes, asked_seed, asked_count, asked_answer}
 use Rattle.load.proofs.LoadLaws.{length_drawn, load_case, asked_case}
@@ -47,7 +44,7 @@ unfolding load_file
 load_is_read seed count few =
     let long = length_drawn count seed in
     let read = written_is_read load_head (drawn_edits count seed) refl (subst (λ (n : ℕ). n ≤ most_edits) (sym long) few) head_fits (drawn_fits count seed) in
-    (read.1 ∙ ap Valid long, read.2, read.3)
+    (read.1 ∙ ap Ok long, read.2, read.3)
 
 -- ---- every position lies from 0 to 1
 drawn_in_unit : (count state : ℕ) → EditsInUnit (drawn_edits count state)
@@ -98,10 +95,10 @@ unfolding load_file
 length_load seed count = length_file load_head (drawn_edits count seed) ∙ ap file_length (length_drawn count seed)
 
 -- a refusal is no length, and lengths are the same where the answers are
-refused_length : (refusal : Refusal) (bytes : ℕ) → Refused refusal ≡ Is bytes → ⊥
+refused_length : (refusal : Refusal) (bytes : ℕ) → Err refusal ≡ Ok bytes → ⊥
 refused_length refusal bytes same = let z : ◌≡◌ {A = ℕ} 0 1 = cc in omega arith
 
-same_length : (a b : ℕ) → Is a ≡ Is b → a ≡ b
+same_length : (a b : ℕ) → ◌≡◌ {A = Result ℕ Refusal} (Ok a) (Ok b) → a ≡ b
 same_length a b same = cc
 
 module _ (seed count bytes : ℕ) (buffer : List ℕ) where
@@ -109,11 +106,11 @@ module _ (seed count bytes : ℕ) (buffer : List ℕ) where
   file = load_file seed count
 
   -- what is said of an answer
-  abbrev AtFront : WriteAnswer → Type 0
+  abbrev AtFront : Result ℕ Refusal → Type 0
   AtFront answer =
-      answer ≡ Is bytes → (count ≤ most_edits) × (bytes ≡ length file) × (bytes ≤ length buffer) × (buffer_with file answer buffer ≡ file ++ drop bytes buffer)
+      answer ≡ Ok bytes → (count ≤ most_edits) × (bytes ≡ length file) × (bytes ≤ length buffer) × (buffer_with file answer buffer ≡ file ++ drop bytes buffer)
 
-  in_front : count ≤ most_edits → file_length count ≤ length buffer → AtFront (Is (file_length count))
+  in_front : count ≤ most_edits → file_length count ≤ length buffer → AtFront (Ok (file_length count))
   in_front few room is =
       let one = same_length (file_length count) bytes is in
       let long : bytes ≡ length file = sym one ∙ sym (length_load seed count) in
@@ -147,10 +144,10 @@ module _ (input buffer : List ℕ) (enough : file_length most_edits ≤ length b
   asked = load_file (asked_seed input) count
 
   -- what is written by an answer
-  abbrev output : WriteAnswer → List ℕ
+  abbrev output : Result ℕ Refusal → List ℕ
   output answer = take (bytes_written answer) (buffer_with asked answer buffer)
 
-  whole_file : count ≤ most_edits → output (Is (file_length count)) ≡ asked
+  whole_file : count ≤ most_edits → output (Ok (file_length count)) ≡ asked
   whole_file few =
       let long = length_load (asked_seed input) count in
       ap (take (file_length count)) (written_front asked buffer (omega (arith, long, few, enough)))
@@ -158,7 +155,7 @@ module _ (input buffer : List ℕ) (enough : file_length most_edits ≤ length b
       ∙ take-append_seam asked (drop (length asked) buffer)
 
   by_tests : (right some few : Bool) → leb count most_edits ≡ few
-      → output (cond right (cond some (cond few (cond (leb (file_length count) (length buffer)) (Is (file_length count)) (Refused Short)) (Refused TooMany)) (Refused Seed)) (Refused Length))
+      → output (cond right (cond some (cond few (cond (leb (file_length count) (length buffer)) (Ok (file_length count)) (Err Short)) (Err TooMany)) (Err Seed)) (Err Length))
       ≡ cond (right && (some && few)) asked []
   by_tests true true true is-few =
       let few = leb-true count most_edits is-few in

@@ -1,10 +1,10 @@
--- A load: the version 1 map file that a seed and a count of edits stand for. Border 1.0, the corners of document 01's sample, and each edit from six draws.
+-- A load: the version 1 map file that a seed and a count of edits stand for. Border 1.0, the corners (0, 0, 0), (1, 0, 0), (1, 1, 1), (0, 1, 1), and each edit from six draws.
 --
 -- The call for it takes a buffer. Refusals in order: seed 0 21; over 1,000 edits 22; a buffer shorter than the file 16. Else the answer is the file's length, and the file stands at the front of the
 -- buffer; the rest of it, and refused all of it, is untouched.
 --
 -- The program is asked for a load by bytes: 8 the seed, 2 the count of edits. An input of another length is 12, before all else.
-use Rattle.std.specs.Prelude.{ℕ, zero, suc, ◌%◌, not, cond, List, [], ◌∷◌, leb, eqb, length}
+use Rattle.std.specs.Prelude.{ℕ, zero, suc, ◌%◌, not, cond, List, [], ◌∷◌, leb, eqb, length, Err, Ok, Result}
 use Rattle.big_endian.specs.BigEndian.{number_at}
 use Rattle.control_point.specs.Direction.{direction_numbered}
 use Rattle.control_point.specs.Told.{Told, natural, tells, unless}
@@ -14,8 +14,7 @@ use Rattle.float64.specs.Literals.{zero_literal, one_literal}
 use Rattle.map_format.specs.Format.{most_edits, Edit, file_length, file_of}
 use Rattle.map_format.specs.declared.format.Head.{Head}
 use Rattle.map_writing.specs.Answer.{buffer_with}
-use Rattle.map_writing.specs.declared.WriteAnswer.{WriteAnswer}
-use Rattle.map_writing.specs.declared.WriteAnswer.TheVariants.{Is, Refused}
+use Rattle.control_point.specs.declared.refusal.Refusal.{Refusal}
 
 -- ---- the file
 -- version 1, border 1.0, corners (0, 0, 0), (1, 0, 0), (1, 1, 1), (0, 1, 1)
@@ -50,13 +49,13 @@ load_file seed count = file_of load_head (drawn_edits count seed)
 
 -- ---- the call
 -- 21, 22, 16 in order; else the file's length
-unfoldable pub load_answer : ℕ → ℕ → ℕ → WriteAnswer
+unfoldable pub load_answer : ℕ → ℕ → ℕ → Result ℕ Refusal
 load_answer seed count room =
     cond (not (eqb seed 0))
     (cond (leb count most_edits)
-    (cond (leb (file_length count) room) (Is (file_length count)) (Refused Short))
-    (Refused TooMany))
-    (Refused Seed)
+    (cond (leb (file_length count) room) (Ok (file_length count)) (Err Short))
+    (Err TooMany))
+    (Err Seed)
 
 abbrev pub load_buffer : ℕ → ℕ → List ℕ → List ℕ
 load_buffer seed count buffer = buffer_with (load_file seed count) (load_answer seed count (length buffer)) buffer
@@ -80,8 +79,8 @@ abbrev pub asked_count : List ℕ → ℕ
 asked_count input = number_at 2 input 8
 
 -- 12, and then as the call answers
-unfoldable pub asked_answer : List ℕ → ℕ → WriteAnswer
-asked_answer input room = cond (eqb (length input) asked_bytes) (load_answer (asked_seed input) (asked_count input) room) (Refused Length)
+unfoldable pub asked_answer : List ℕ → ℕ → Result ℕ Refusal
+asked_answer input room = cond (eqb (length input) asked_bytes) (load_answer (asked_seed input) (asked_count input) room) (Err Length)
 
 abbrev pub asked_buffer : List ℕ → List ℕ → List ℕ
 asked_buffer input buffer = buffer_with (load_file (asked_seed input) (asked_count input)) (asked_answer input (length buffer)) buffer

@@ -1,12 +1,11 @@
--- Readings of loads, computed: the theorems speak of loads that there are, and the refusals come in the order of the paper. Statements only.
+-- Readings of loads, computed: the theorems speak of loads that there are, and the refusals come in their order. Statements only.
 --
 -- The first draw of seed 1 can be had by hand: its bit 0 is joined by bit 13, that by bit 6, and these three by bits 17, 30 and 23.
-use Rattle.std.specs.Prelude.{ℕ, ◌≡◌, List, [], ◌∷◌, ◌++◌, length, take, drop}
+use Rattle.std.specs.Prelude.{ℕ, ◌≡◌, List, [], ◌∷◌, ◌++◌, length, take, drop, Err, Ok}
 use Rattle.big_endian.specs.Written.{bytes_of}
 use Rattle.control_point.specs.declared.refusal.Refusal.TheVariants.{Length, Short, Seed, TooMany}
 use Rattle.control_point.specs.declared.t_mesh_direction.TmeshDirection.TheVariants.{Right}
 use Rattle.draw.specs.Draw.{later_draw, in_parts}
-use Rattle.map_writing.specs.declared.WriteAnswer.TheVariants.{Is, Refused}
 use Rattle.load.specs.Load.{drawn_edit, load_file, load_answer, asked_answer}
 
 -- what the program is asked by: seed 1 and so many edits, in two bytes
@@ -28,15 +27,15 @@ pub record LoadReadings : Type 0 where
   pub bytes : drop 109 (load_file 1 1)
       ≡ 65 ∷ (1 ∷ (bytes_of 8 0x3fe4880000000000 ++ (bytes_of 8 0x3fdbd00000000000 ++ (bytes_of 8 0x3fcd200000000000 ++ bytes_of 8 0x3fad800000000000))))
   -- 21 before 22 before 16, both sides of each limit
-  pub no_seed : load_answer 0 1001 0 ≡ Refused Seed
-  pub too_many : load_answer 1 1001 0 ≡ Refused TooMany
-  pub too_many_in_room : load_answer 1 1001 34143 ≡ Refused TooMany
-  pub too_short : load_answer 1 1000 34108 ≡ Refused Short
-  pub most : load_answer 1 1000 34109 ≡ Is 34109
-  pub none : load_answer 1 0 109 ≡ Is 109
+  pub no_seed : load_answer 0 1001 0 ≡ Err Seed
+  pub too_many : load_answer 1 1001 0 ≡ Err TooMany
+  pub too_many_in_room : load_answer 1 1001 34143 ≡ Err TooMany
+  pub too_short : load_answer 1 1000 34108 ≡ Err Short
+  pub most : load_answer 1 1000 34109 ≡ Ok 34109
+  pub none : load_answer 1 0 109 ≡ Ok 109
   -- the program: an input of nine bytes and of eleven, also with 4 behind the ten, before all else; 1,000 edits and 1,001; a seed whose last byte alone is not 0
-  pub nine : asked_answer (take 9 (asking 0 1)) 34109 ≡ Refused Length
-  pub eleven : asked_answer (0 ∷ asking 0 1) 34109 ≡ Refused Length
-  pub four_behind : asked_answer (asking 0 1 ++ (4 ∷ [])) 34109 ≡ Refused Length
-  pub asked : asked_answer (asking 3 232) 34109 ≡ Is 34109
-  pub asked_too_many : asked_answer (asking 3 233) 34109 ≡ Refused TooMany
+  pub nine : asked_answer (take 9 (asking 0 1)) 34109 ≡ Err Length
+  pub eleven : asked_answer (0 ∷ asking 0 1) 34109 ≡ Err Length
+  pub four_behind : asked_answer (asking 0 1 ++ (4 ∷ [])) 34109 ≡ Err Length
+  pub asked : asked_answer (asking 3 232) 34109 ≡ Ok 34109
+  pub asked_too_many : asked_answer (asking 3 233) 34109 ≡ Err TooMany

@@ -1,21 +1,19 @@
 -- Theorems on loads: statements only, with what they speak of. `load_file`, `load_buffer` and `asked_answer` are the definitions that the contracts of the code cite; `checked_file`, `head_of`, `head_corner_at` and `edits_of`
 -- say how the reader of a map file takes them.
-use Rattle.std.specs.Prelude.{ℕ, ◌≤◌, ◌<◌, ◌≡◌, Bool, true, not, cond, ◌&&◌, List, [], ◌∷◌, ◌++◌, leb, eqb, length, take, drop}
-use Rattle.counted_file.specs.declared.FileCheck.TheVariants.{Valid}
+use Rattle.std.specs.Prelude.{ℕ, ◌≤◌, ◌<◌, ◌≡◌, Bool, true, not, cond, ◌&&◌, List, [], ◌∷◌, ◌++◌, leb, eqb, length, take, drop, Ok}
 use Rattle.float64.specs.Unit.{in_unit}
 use Rattle.map_format.specs.Format.{most_edits, Edit, head_corner_at, head_of, edits_of, file_length, checked_file}
 use Rattle.map_writing.specs.Answer.{write_told, bytes_written}
-use Rattle.map_writing.specs.declared.WriteAnswer.TheVariants.{Is}
 use Rattle.t_mesh.specs.declared.t_mesh.Position.{Position}
 use Rattle.load.specs.Load.{load_head, drawn_edits, load_file, load_answer, load_buffer, asked_seed, asked_count, asked_answer, asked_buffer}
 
 -- ---- THE READER ACCEPTS EACH LOAD
--- The load of every seed and of every count up to 1,000 is not refused and has that count of edits; and its head and its edits, as they are read, are version 1, border 1.0 and the sample's corners, and the edits drawn.
+-- The load of every seed and of every count up to 1,000 is not refused and has that count of edits; and its head and its edits, as they are read, are version 1, border 1.0 and the corners of `load_head`, and the edits drawn.
 abbrev pub LoadIsRead : Type 0
 LoadIsRead =
     (seed count : ℕ)
     → count ≤ most_edits
-    → (checked_file (load_file seed count) ≡ Valid count) × (head_of (load_file seed count) ≡ load_head) × (edits_of (load_file seed count) ≡ drawn_edits count seed)
+    → (checked_file (load_file seed count) ≡ Ok count) × (head_of (load_file seed count) ≡ load_head) × (edits_of (load_file seed count) ≡ drawn_edits count seed)
 
 -- ---- EVERY POSITION LIES FROM 0 TO 1
 abbrev pub PositionInUnit : Position → Type 0
@@ -38,7 +36,7 @@ LoadInUnit =
 abbrev pub LoadAtFront : Type 0
 LoadAtFront =
     (seed count bytes : ℕ) (buffer : List ℕ)
-    → load_answer seed count (length buffer) ≡ Is bytes
+    → load_answer seed count (length buffer) ≡ Ok bytes
     → (count ≤ most_edits) × (bytes ≡ length (load_file seed count)) × (bytes ≤ length buffer) × (load_buffer seed count buffer ≡ load_file seed count ++ drop bytes buffer)
 
 -- ---- THE PROGRAM

@@ -13,7 +13,7 @@ use control_point::refusal::Refusal;
 use control_point::t_mesh_direction::TmeshDirection;
 use draw::{drawn_float, next_draw};
 use map_format::format::{EDIT_BYTES, EDITS_AT, EditTarget, Head, MOST_EDITS};
-use map_writing::{WriteAnswer, file_length, put_edit, put_front};
+use map_writing::{file_length, put_edit, put_front};
 use t_mesh::t_mesh::Position;
 
 const THE_VERSION: u8 = 1;
@@ -35,7 +35,7 @@ struct Drawn {
     pub state: u64,
 }
 
-// The version, the border weight, and the corners of document 01's sample.
+// The version, the border weight, and the corners (0, 0, 0), (1, 0, 0), (1, 1, 1) and (0, 1, 1).
 fn load_head() -> Head
     ensures { result ≡ load_head }
 {
@@ -102,50 +102,44 @@ fn put_edits(out: &mut [u8], seed: u64, count: usize)
     requires { count ≤ most_edits }
     ensures { out.new ≡ written out.old edits_at (bytes_of_edits (drawn_edits count seed)) }
 {
-    let mut at = EDITS_AT;
-    let mut left = count;
     let mut state = seed;
-    while 0 < left {
+    for n in 0..count {
         let drawn = drawn_edit(state);
-        let target = drawn.target;
-        let position = drawn.position;
-        put_edit(out, at, target, position);
+        put_edit(out, EDITS_AT + n * EDIT_BYTES, drawn.target, drawn.position);
         state = drawn.state;
-        at += EDIT_BYTES;
-        left -= 1;
     }
 }
 
 // Writes the load of a seed with so many edits at the front of a buffer.
-pub fn write_load(seed: u64, edits: u64, out: &mut [u8]) -> WriteAnswer
+pub fn write_load(seed: u64, edits: u64, out: &mut [u8]) -> Result<usize, Refusal>
     ensures is { result ≡ load_answer seed edits (length out.old) }
     ensures buffer { out.new ≡ load_buffer seed edits out.old }
     ensures told { write_told result ≡ load_table seed edits (length out.old) }
 {
     if seed == 0 {
-        return WriteAnswer::Refused(Refusal::Seed);
+        return Err(Refusal::Seed);
     }
     let count = edits as usize;
     if MOST_EDITS < count {
-        return WriteAnswer::Refused(Refusal::TooMany);
+        return Err(Refusal::TooMany);
     }
     let bytes = file_length(count);
     if out.len() < bytes {
-        return WriteAnswer::Refused(Refusal::Short);
+        return Err(Refusal::Short);
     }
     put_front(out, count, load_head());
     put_edits(out, seed, count);
-    WriteAnswer::Is(bytes)
+    Ok(bytes)
 }
 
 // Writes the load that an input asks for.
-pub fn write_asked(input: &[u8], out: &mut [u8]) -> WriteAnswer
+pub fn write_asked(input: &[u8], out: &mut [u8]) -> Result<usize, Refusal>
     ensures is { result ≡ asked_answer input.now (length out.old) }
     ensures buffer { out.new ≡ asked_buffer input.now out.old }
     ensures told { write_told result ≡ asked_table input.now (length out.old) }
 {
     if input.len() != ASKED_BYTES {
-        return WriteAnswer::Refused(Refusal::Length);
+        return Err(Refusal::Length);
     }
     write_load(number_at(input, 0), pair_at(input, COUNT_AT) as u64, out)
 }

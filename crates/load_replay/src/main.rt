@@ -4,13 +4,8 @@
 mod judge;
 
 use crate::judge::call_is_right;
-use replay::{CASE_ROOM, CaseRead, Outcome, Tally, count_outcome, is_end, outcome_of, read_case};
 use std::io;
-use std::io::Read;
 use stored_page::FILLER;
-
-// More cases than the file holds: the loop ends with the file.
-const MOST_CASES: u64 = 1000000;
 
 // A call's page: behind a buffer of 34,177 bytes, in which a file of 1,002 edits would have room, stand as many fillers as before it.
 const CALL_PAGE: usize = 34209;
@@ -20,38 +15,6 @@ fn is_right(call: &[u8]) -> bool {
     call_is_right(call, &mut page)
 }
 
-fn judged(buffer: &[u8], bytes: usize) -> Outcome {
-    if bytes <= buffer.len() {
-        return outcome_of(is_right(&buffer[0..bytes]));
-    }
-    Outcome::Wrong
-}
-
-// The next case, judged; one that the file ends within is wrong.
-fn next_outcome<R: Read>(cases: &mut R) -> io::Result<Outcome> {
-    let mut case = [0u8; CASE_ROOM];
-    let outcome = match read_case(cases, &mut case)? {
-        CaseRead::End => Outcome::End,
-        CaseRead::Part => Outcome::Wrong,
-        CaseRead::Whole(bytes) => judged(&case, bytes),
-    };
-    Ok(outcome)
-}
-
-fn replayed<R: Read>(cases: &mut R) -> io::Result<Tally> {
-    let mut tally = Tally { right: 0, wrong: 0 };
-    for _ in 0..MOST_CASES {
-        let outcome = next_outcome(cases)?;
-        if is_end(outcome) {
-            break;
-        }
-        tally = count_outcome(tally, outcome);
-    }
-    Ok(tally)
-}
-
 fn main(rt: HostRuntime) -> io::Result<()> {
-    let mut cases = replay::open_cases(&rt)?;
-    let tally = replayed(&mut cases)?;
-    replay::report(&rt, tally)
+    replay::run(&rt, is_right)
 }

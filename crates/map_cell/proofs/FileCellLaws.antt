@@ -1,23 +1,21 @@
 -- Laws of specs/FileCell.antt: the answer by the check of the file, and that it tells what its table says.
-use Rattle.std.specs.Prelude.{ℕ, ◌≡◌, refl, List, Float}
+use Rattle.std.specs.Prelude.{ℕ, ◌≡◌, refl, List, Float, Err, Ok}
 use Rattle.std.proofs.Math.Path.{sym, ap}
 use Rattle.std.proofs.Common.{◌∙◌}
 use Rattle.control_point.specs.declared.refusal.Refusal.{Refusal}
 use Rattle.cells.specs.Cells.{cell_told, cell_points}
 use Rattle.cells.proofs.TableLaws.{cell_points_told}
-use Rattle.cells.specs.declared.CellAnswer.TheVariants.{Refused as NoWords}
 use Rattle.map_format.specs.Format.{edit_count, checked_file, where_valid}
 use Rattle.map_format.proofs.FormatLaws.{where_valid_told}
-use Rattle.counted_file.specs.declared.FileCheck.TheVariants.{Valid, Refused}
 use Rattle.map_file.specs.Run.{file_map}
 use Rattle.map_cell.specs.FileCell.{checked_cell, file_cell, file_cell_table}
 
 module _ (e : Float) (bytes : List ℕ) (cell : ℕ) where
-  pub cell_valid : (count : ℕ) → checked_file bytes ≡ Valid count → (cell_points e (file_map e bytes count) cell).answer ≡ file_cell e bytes cell
+  pub cell_valid : (count : ℕ) → checked_file bytes ≡ Ok count → (cell_points e (file_map e bytes count) cell).answer ≡ file_cell e bytes cell
   unfolding file_cell
   cell_valid count valid = sym (ap (checked_cell e bytes cell) valid)
 
-  pub cell_refused : (refusal : Refusal) → checked_file bytes ≡ Refused refusal → NoWords refusal ≡ file_cell e bytes cell
+  pub cell_refused : (refusal : Refusal) → checked_file bytes ≡ Err refusal → Err refusal ≡ file_cell e bytes cell
   unfolding file_cell
   cell_refused refusal refused = sym (ap (checked_cell e bytes cell) refused)
 

@@ -1,7 +1,7 @@
 -- Laws of the run of a file. An edit of a map is one of its mesh: where no knots are kept, none are kept after it. Past the end of a
 -- file every edit reads the same. What is left of a run gives the whole.
 use Prim.Native.Nat.{ℕ, zero, suc, ◌+◌, ◌-◌, ◌≤◌, ◌<◌}
-use Rattle.std.specs.Prelude.{◌≡◌, Bool, true, false, cond, Float, length, set}
+use Rattle.std.specs.Prelude.{◌≡◌, Bool, true, false, cond, Float, length, set, Err, Ok, Result}
 use Rattle.std.proofs.Math.Path.{refl, sym, ap}
 use Rattle.std.proofs.Common.{◌∙◌, arith, drop_of_length-le}
 use mathlib.Core.List.{List, [], ◌∷◌}
@@ -11,8 +11,7 @@ use Rattle.big_endian.specs.Written.{written}
 use Rattle.control_point.specs.declared.refusal.Refusal.{Refusal}
 use Rattle.insertion.specs.Insert.{answer_number}
 use Rattle.insertion.specs.Withdrawal.{is_withdrawn, unless_withdrawn}
-use Rattle.insertion.specs.declared.insertion.InsertAnswer.{InsertAnswer}
-use Rattle.insertion.specs.declared.insertion.InsertAnswer.TheVariants.{Done, Torn, Refused as NotInserted}
+use Rattle.insertion.specs.declared.insertion.Insertion.TheVariants.{Done, Torn}
 use Rattle.lent_mesh.specs.LentMesh.{unkept}
 use Rattle.t_mesh.specs.Insertion.{insert_into_mesh, kept_after, add_control_point}
 use Rattle.t_mesh.specs.Tmesh.{new_tmesh}
@@ -21,11 +20,10 @@ use Rattle.t_mesh.specs.declared.t_mesh.Mesh.{Mesh}
 use Rattle.t_mesh.specs.declared.t_mesh.Position.{Position}
 use Rattle.t_mesh.specs.declared.t_mesh.Tmesh.{Tmesh}
 use Rattle.surface.specs.SetPoint.{set_point}
-use Rattle.surface.specs.declared.evaluation.EvaluationAnswer.TheVariants.{Refused as NotEvaluated}
 use Rattle.map_format.specs.Format.{border_at, edits_at, edit_bytes, file_withdraws, Edit, edit_at, edits_from, checked_file}
 use Rattle.map_format.proofs.FormatLaws.{edit_after}
 use Rattle.map_file.specs.Run.{corner_of, fresh_map, SameEdits, edited, mesh_edited, after_edits, edit_answers, edit_numbers, file_map, file_numbers, checked_set_point, file_set_point}
-use Rattle.counted_file.specs.declared.FileCheck.TheVariants.{Valid, Refused}
+use Rattle.insertion.specs.declared.insertion.Insertion.{Insertion}
 
 -- ---- the map before the edits, by the weight and the corners that were read
 pub fresh_read : (bytes : List ℕ) (map : Tmesh) (weight : Float) (at_bottom_left at_bottom_right at_top_right at_top_left : Position) → map ≡ new_tmesh weight at_bottom_left at_bottom_right at_top_right at_top_left
@@ -34,10 +32,10 @@ pub fresh_read : (bytes : List ℕ) (map : Tmesh) (weight : Float) (at_bottom_le
 fresh_read bytes map weight at_bottom_left at_bottom_right at_top_right at_top_left is w first second third fourth = rw (is, w, first, second, third, fourth)
 
 -- ---- an edit of a map that keeps no knots
-pub none_after : (answer : InsertAnswer) → kept_after false answer ≡ false
-none_after (Done opened inferred) = refl
-none_after (Torn opened inferred) = refl
-none_after (NotInserted refusal) = refl
+pub none_after : (answer : Result Insertion Refusal) → kept_after false answer ≡ false
+none_after (Ok (Done opened inferred)) = refl
+none_after (Ok (Torn opened inferred)) = refl
+none_after (Err refusal) = refl
 
 -- either of two meshes
 unkept_either : (first : Bool) (mesh other : Mesh) → cond first (unkept mesh) (unkept other) ≡ unkept (cond first mesh other)
@@ -62,7 +60,7 @@ module _ (withdraws : Bool) (e : Float) (mesh : Mesh) (edit : Edit) where
   edited_answer = refl
 
   -- the first edit of several, by the answer and the mesh that it gave
-  module _ (answer : InsertAnswer) (answered : answer ≡ (mesh_edited withdraws e mesh edit).answer) (after : Mesh) (left : after ≡ (mesh_edited withdraws e mesh edit).mesh) (rest : List Edit) where
+  module _ (answer : Result Insertion Refusal) (answered : answer ≡ (mesh_edited withdraws e mesh edit).answer) (after : Mesh) (left : after ≡ (mesh_edited withdraws e mesh edit).mesh) (rest : List Edit) where
     map_after_lem : (edited withdraws e (unkept mesh) edit).map ≡ unkept after
     map_after_lem = edited_map ∙ ap unkept (sym left)
 
@@ -73,7 +71,7 @@ module _ (withdraws : Bool) (e : Float) (mesh : Mesh) (edit : Edit) where
     numbers_after_first : edit_numbers withdraws e (unkept mesh) (edit ∷ rest) ≡ answer_number answer ∷ edit_numbers withdraws e (unkept after) rest
     unfolding edit_answers
     numbers_after_first =
-        ap (λ (a : InsertAnswer). answer_number a ∷ edit_numbers withdraws e (edited withdraws e (unkept mesh) edit).map rest) (edited_answer ∙ sym answered)
+        ap (λ (a : Result Insertion Refusal). answer_number a ∷ edit_numbers withdraws e (edited withdraws e (unkept mesh) edit).map rest) (edited_answer ∙ sym answered)
         ∙ ap (λ (map : Tmesh). answer_number answer ∷ edit_numbers withdraws e map rest) map_after_lem
 
 -- ---- past the end of a file
@@ -127,7 +125,7 @@ module _ (e : Float) (bytes : List ℕ) (count : ℕ) (notes₀ : List ℕ) wher
         let z : count - n ≡ suc (count - (n + 1)) = omega (arith, some) in
         simp z (ap (λ (rest : List Edit). edit_at bytes at ∷ rest) (sym (same (count - (n + 1)))))
 
-    pub running_next : (withdraws : Bool) → withdraws ≡ rule → (answer : InsertAnswer) → answer ≡ (mesh_edited withdraws e mesh (edit_at bytes at)).answer → (after : Mesh)
+    pub running_next : (withdraws : Bool) → withdraws ≡ rule → (answer : Result Insertion Refusal) → answer ≡ (mesh_edited withdraws e mesh (edit_at bytes at)).answer → (after : Mesh)
         → after ≡ (mesh_edited withdraws e mesh (edit_at bytes at)).mesh → (notes' : List ℕ) → notes' ≡ set notes n (answer_number answer) → Running e bytes count notes₀ (unkept after) notes' next (n + 1)
     unfolding written
     running_next withdraws by_rule answer answered after left notes' noted =
@@ -148,10 +146,10 @@ module _ (e : Float) (bytes : List ℕ) (count : ℕ) (notes₀ : List ℕ) wher
 
 -- ---- a file's set-point, by its check
 module _ (e : Float) (bytes : List ℕ) (s t : Float) where
-  pub set_point_valid : (count : ℕ) → checked_file bytes ≡ Valid count → (set_point e (file_map e bytes count) s t).answer ≡ file_set_point e bytes s t
+  pub set_point_valid : (count : ℕ) → checked_file bytes ≡ Ok count → (set_point e (file_map e bytes count) s t).answer ≡ file_set_point e bytes s t
   unfolding file_set_point
   set_point_valid count valid = sym (ap (checked_set_point e bytes s t) valid)
 
-  pub set_point_refused : (refusal : Refusal) → checked_file bytes ≡ Refused refusal → NotEvaluated refusal ≡ file_set_point e bytes s t
+  pub set_point_refused : (refusal : Refusal) → checked_file bytes ≡ Err refusal → Err refusal ≡ file_set_point e bytes s t
   unfolding file_set_point
   set_point_refused refusal refused = sym (ap (checked_set_point e bytes s t) refused)

@@ -1,9 +1,8 @@
 -- The run of a valid file: the map of its border and corners, and its edits in order, each given the map as the last left it; a refused one is passed over, and
 -- the version says whether a torn one stays or is withdrawn. e is the closeness. What is answered at (s, t) is the set-point of the map that the run leaves.
-use Rattle.std.specs.Prelude.{ℕ, ◌+◌, ◌*◌, Bool, List, [], ◌∷◌, map, ◌≡◌, Float}
+use Rattle.std.specs.Prelude.{ℕ, ◌+◌, ◌*◌, Bool, List, [], ◌∷◌, map, ◌≡◌, Float, Err, Ok, Result}
 use Rattle.big_endian.specs.BigEndian.{float_at}
 use Rattle.insertion.specs.Insert.{answer_number}
-use Rattle.insertion.specs.declared.insertion.InsertAnswer.{InsertAnswer}
 use Rattle.t_mesh.specs.Tmesh.{new_tmesh}
 use Rattle.t_mesh.specs.Insertion.{add_by_rule, mesh_by_rule}
 use Rattle.t_mesh.specs.declared.t_mesh.Mesh.{Mesh}
@@ -12,11 +11,10 @@ use Rattle.t_mesh.specs.declared.t_mesh.Tmesh.{Tmesh}
 use Rattle.t_mesh.specs.declared.add.Added.{Added}
 use Rattle.t_mesh.specs.declared.add.InsertedMesh.{InsertedMesh}
 use Rattle.surface.specs.SetPoint.{set_point}
-use Rattle.surface.specs.declared.evaluation.EvaluationAnswer.{EvaluationAnswer}
-use Rattle.surface.specs.declared.evaluation.EvaluationAnswer.TheVariants.{Refused as NotEvaluated}
 use Rattle.map_format.specs.Format.{border_at, corners_at, position_bytes, edits_at, file_withdraws, position_at, Edit, edits_from, checked_file}
-use Rattle.counted_file.specs.declared.FileCheck.{FileCheck}
-use Rattle.counted_file.specs.declared.FileCheck.TheVariants.{Valid, Refused}
+use Rattle.control_point.specs.declared.refusal.Refusal.{Refusal}
+use Rattle.insertion.specs.declared.insertion.Insertion.{Insertion}
+use Rattle.surface.specs.declared.evaluation.Evaluation.{Evaluation}
 
 -- ---- the map before the edits
 abbrev pub corner_of : List ℕ → ℕ → Position
@@ -40,7 +38,7 @@ after_edits withdraws e map [] = map
 after_edits withdraws e map (edit ∷ rest) = after_edits withdraws e (edited withdraws e map edit).map rest
 
 -- their answers, in order
-unfoldable pub edit_answers : Bool → Float → Tmesh → List Edit → List InsertAnswer
+unfoldable pub edit_answers : Bool → Float → Tmesh → List Edit → List (Result Insertion Refusal)
 edit_answers withdraws e map [] = []
 edit_answers withdraws e map (edit ∷ rest) = (edited withdraws e map edit).answer ∷ edit_answers withdraws e (edited withdraws e map edit).map rest
 
@@ -56,16 +54,16 @@ SameEdits bytes at other = (count : ℕ) → edits_from count bytes at ≡ edits
 abbrev pub file_map : Float → List ℕ → ℕ → Tmesh
 file_map e bytes count = after_edits (file_withdraws bytes) e (fresh_map bytes) (edits_from count bytes edits_at)
 
-abbrev pub file_answers : Float → List ℕ → ℕ → List InsertAnswer
+abbrev pub file_answers : Float → List ℕ → ℕ → List (Result Insertion Refusal)
 file_answers e bytes count = edit_answers (file_withdraws bytes) e (fresh_map bytes) (edits_from count bytes edits_at)
 
 abbrev pub file_numbers : Float → List ℕ → ℕ → List ℕ
 file_numbers e bytes count = edit_numbers (file_withdraws bytes) e (fresh_map bytes) (edits_from count bytes edits_at)
 
 -- ---- the set-point at (s, t): a refused file runs nothing
-abbrev pub checked_set_point : Float → List ℕ → Float → Float → FileCheck → EvaluationAnswer
-checked_set_point e bytes s t (Valid count) = (set_point e (file_map e bytes count) s t).answer
-checked_set_point e bytes s t (Refused refusal) = NotEvaluated refusal
+abbrev pub checked_set_point : Float → List ℕ → Float → Float → Result ℕ Refusal → Result Evaluation Refusal
+checked_set_point e bytes s t (Ok count) = (set_point e (file_map e bytes count) s t).answer
+checked_set_point e bytes s t (Err refusal) = Err refusal
 
-unfoldable pub file_set_point : Float → List ℕ → Float → Float → EvaluationAnswer
+unfoldable pub file_set_point : Float → List ℕ → Float → Float → Result Evaluation Refusal
 file_set_point e bytes s t = checked_set_point e bytes s t (checked_file bytes)

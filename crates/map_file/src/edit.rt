@@ -5,9 +5,10 @@ ghost use Rattle.lent_mesh.specs.LentMesh.{lent_mesh, MeshRoom};
 ghost use Rattle.map_format.specs.Format.{edit_bytes, edit_at};
 ghost use Rattle.map_file.specs.Run.{mesh_edited, SameEdits};
 
+use control_point::refusal::Refusal;
 use control_point::small::closeness;
-use insertion::insertion::{InsertAnswer, is_done};
-use lent_mesh::{lent_listed, row_of};
+use insertion::insertion::{Insertion, is_done};
+use lent_mesh::{LentMesh, row_of};
 use map_format::format::{EDIT_BYTES, edit_position};
 use map_format::reader::target_from;
 use withdrawal::{insert_by_rule, leaves_point};
@@ -24,45 +25,33 @@ pub fn run_edit(
     withdraws: bool,
     file: &[u8],
     at: usize,
-    kinds: &mut [u8; 512],
-    numbers: &mut [u8; 512],
-    intervals: &mut [f64; 512],
-    coordinates: &mut [f64; 256],
-    made: &mut u8,
-    positions: &mut [[f64; 3]; 128],
-    listed: &mut [bool; 128],
-) -> InsertAnswer
-    requires { MeshRoom kinds.old numbers.old intervals.old coordinates.old positions.old listed.old }
-    ensures answer { result ≡ (mesh_edited withdraws millionth
-        (lent_mesh kinds.old numbers.old intervals.old coordinates.old made.old positions.old listed.old)
-        (edit_at file.now at)).answer }
-    ensures mesh { lent_mesh kinds.new numbers.new intervals.new coordinates.new made.new positions.new listed.new
-        ≡ (mesh_edited withdraws millionth
-        (lent_mesh kinds.old numbers.old intervals.old coordinates.old made.old positions.old listed.old)
-        (edit_at file.now at)).mesh }
-    ensures room { MeshRoom kinds.new numbers.new intervals.new coordinates.new positions.new listed.new }
+    mesh: &mut LentMesh,
+) -> Result<Insertion, Refusal>
+    requires { MeshRoom mesh.old }
+    ensures answer { result ≡ (mesh_edited withdraws millionth (lent_mesh mesh.old) (edit_at file.now at)).answer }
+    ensures mesh { lent_mesh mesh.new ≡ (mesh_edited withdraws millionth (lent_mesh mesh.old) (edit_at file.now at)).mesh }
+    ensures room { MeshRoom mesh.new }
 {
-    let p = *made;
+    let p = mesh.made;
     let target = target_from(file, at);
     let direction = target.direction;
+    let listed = mesh.lent_listed(target.point);
     let answer = insert_by_rule(
         withdraws,
         closeness(),
-        kinds,
-        numbers,
-        intervals,
-        coordinates,
+        &mut mesh.points,
         p,
-        lent_listed(listed, target.point),
+        listed,
         target.point,
         direction,
         target.ratio,
     );
+    // No `?`: what is refused and what is withdrawn leave by one test.
     if !leaves_point(withdraws, answer) {
         return answer;
     }
-    positions[p as usize] = row_of(edit_position(file, at));
-    listed[p as usize] = is_done(answer);
-    *made = p + 1;
+    mesh.positions[p as usize] = row_of(edit_position(file, at));
+    mesh.listed[p as usize] = is_done(answer);
+    mesh.made = p + 1;
     answer
 }

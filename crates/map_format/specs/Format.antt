@@ -13,7 +13,7 @@
 --   1        stays
 --   2        is withdrawn
 --   other    the file is refused 13
-use Rattle.std.specs.Prelude.{ℕ, zero, suc, ◌+◌, ◌*◌, ◌-◌, Bool, true, cond, ◌&&◌, List, [], ◌∷◌, ◌++◌, ltb, leb, Float, length}
+use Rattle.std.specs.Prelude.{ℕ, zero, suc, ◌+◌, ◌*◌, ◌-◌, Bool, true, cond, ◌&&◌, List, [], ◌∷◌, ◌++◌, ltb, leb, Float, length, Err, Ok, Result}
 use Rattle.big_endian.specs.BigEndian.{byte_at, float_at}
 use Rattle.big_endian.specs.Written.{bytes_of, bytes_of_float}
 use Rattle.control_point.specs.Direction.{direction_number, direction_numbered}
@@ -21,11 +21,10 @@ use Rattle.control_point.specs.Told.{Told, natural, tells, unless}
 use Rattle.control_point.specs.declared.refusal.Refusal.TheVariants.{Length, Version, Heading}
 use Rattle.control_point.specs.declared.t_mesh_direction.TmeshDirection.{TmeshDirection}
 use Rattle.counted_file.specs.Counted.{count_bytes, version_at, item_count, counted_right}
-use Rattle.counted_file.specs.declared.FileCheck.{FileCheck}
-use Rattle.counted_file.specs.declared.FileCheck.TheVariants.{Valid, Refused}
 use Rattle.t_mesh.specs.declared.t_mesh.Position.{Position}
 use Rattle.map_format.specs.declared.format.EditTarget.{EditTarget}
 use Rattle.map_format.specs.declared.format.Head.{Head}
+use Rattle.control_point.specs.declared.refusal.Refusal.{Refusal}
 
 -- ---- sizes and places
 abbrev pub border_at : ℕ
@@ -174,13 +173,13 @@ headings_right zero bytes at = true
 headings_right (suc count) bytes at = ltb (byte_at bytes (at + direction_in)) 4 && headings_right count bytes (at + edit_bytes)
 
 -- 12, 13, 14 in order; else the count of edits
-unfoldable pub checked_file : List ℕ → FileCheck
+unfoldable pub checked_file : List ℕ → Result ℕ Refusal
 checked_file bytes =
     cond (length_right bytes)
     (cond (is_version (version_of bytes))
-    (cond (headings_right (edit_count bytes) bytes edits_at) (Valid (edit_count bytes)) (Refused Heading))
-    (Refused Version))
-    (Refused Length)
+    (cond (headings_right (edit_count bytes) bytes edits_at) (Ok (edit_count bytes)) (Err Heading))
+    (Err Version))
+    (Err Length)
 
 -- the table of what takes a file: 12, 13, 14, and where it is valid what is told then
 abbrev pub where_valid : List ℕ → Told → Told

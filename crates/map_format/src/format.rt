@@ -6,7 +6,7 @@ ghost use Rattle.map_format.specs.Format.{edits_at, most_edits, version_of, is_v
 use big_endian::{after, byte_at, float_at};
 use control_point::refusal::Refusal;
 use control_point::t_mesh_direction::TmeshDirection;
-use counted_file::{FileCheck, VERSION_AT, counted_right};
+use counted_file::{VERSION_AT, counted_right};
 use t_mesh::t_mesh::Position;
 
 const FIRST_VERSION: u8 = 1;
@@ -68,7 +68,7 @@ fn version_of(file: &[u8]) -> u8
 fn is_version(version: u8) -> bool
     ensures { result ≡ is_version version }
 {
-    FIRST_VERSION <= version && version <= LAST_VERSION
+    (FIRST_VERSION..=LAST_VERSION).contains(&version)
 }
 
 // Whether the torn edits of a file are withdrawn. Of a byte that is no version it says what it says of 1 below 2, and of 2 above: `validate` stands before it.
@@ -117,33 +117,24 @@ fn headings_right(bytes: &[u8], count: usize) -> bool
     requires { count ≤ most_edits }
     ensures { result ≡ headings_right count bytes.now edits_at }
 {
-    let mut at = EDITS_AT;
-    let mut left = count;
-    while 0 < left {
-        if DIRECTIONS <= byte_at(bytes, at + DIRECTION_IN) {
-            return false;
-        }
-        at += EDIT_BYTES;
-        left -= 1;
-    }
-    true
+    (0..count).all(|n| byte_at(bytes, EDITS_AT + n * EDIT_BYTES + DIRECTION_IN) < DIRECTIONS)
 }
 
 // A file's count of edits, or why it is refused.
-pub fn validate(file: &[u8]) -> FileCheck
+pub fn validate(file: &[u8]) -> Result<usize, Refusal>
     ensures is { result ≡ checked_file file.now }
     ensures told { file_told result ≡ file_table file.now }
 {
     if !counted_right(file, EDITS_AT, EDIT_BYTES, MOST_EDITS) {
-        return FileCheck::Refused(Refusal::Length);
+        return Err(Refusal::Length);
     }
     if !is_version(version_of(file)) {
-        return FileCheck::Refused(Refusal::Version);
+        return Err(Refusal::Version);
     }
     let count = (file.len() - EDITS_AT) / EDIT_BYTES;
     if headings_right(file, count) {
-        FileCheck::Valid(count)
+        Ok(count)
     } else {
-        FileCheck::Refused(Refusal::Heading)
+        Err(Refusal::Heading)
     }
 }

@@ -8,21 +8,22 @@ ghost use Rattle.insertion.specs.Table.{insertion_table};
 ghost use Rattle.t_mesh.specs.Insertion.{kept_after, add_control_point, add_by_rule};
 ghost use Rattle.t_mesh.specs.Tmesh.{store_of, is_listed};
 
+use control_point::refusal::Refusal;
 use control_point::small::closeness;
 use control_point::t_mesh_direction::TmeshDirection;
-use insertion::insertion::{InsertAnswer, is_torn};
+use insertion::insertion::{Insertion, is_torn};
 use mesh_insertion::insert_into;
 use t_mesh::add::Added;
 use t_mesh::t_mesh::{Position, Tmesh};
 
 // Whether kept knots and their index are still kept after an insertion.
-fn kept_after(kept: bool, answer: InsertAnswer) -> bool
+fn kept_after(kept: bool, answer: Result<Insertion, Refusal>) -> bool
     ensures { result ≡ kept_after kept answer }
 {
     match answer {
-        InsertAnswer::Done(_, _) => false,
-        InsertAnswer::Torn(_, _) => kept,
-        InsertAnswer::Refused(_) => kept,
+        Ok(Insertion::Done(_, _)) => false,
+        Ok(Insertion::Torn(_, _)) => kept,
+        Err(_) => kept,
     }
 }
 
@@ -38,11 +39,12 @@ pub fn add_control_point(
     ensures told { insert_told result.answer ≡ insertion_table millionth (store_of map) (is_listed map con) con direction ratio }
 {
     let inserted = insert_into(closeness(), map.mesh, con, direction, ratio, position);
-    let answer = inserted.answer;
-    let after = inserted.mesh;
-    map.mesh = after;
-    map.kept = kept_after(map.kept, answer);
-    Added { answer, map }
+    map.mesh = inserted.mesh;
+    map.kept = kept_after(map.kept, inserted.answer);
+    Added {
+        answer: inserted.answer,
+        map,
+    }
 }
 
 // The same, withdrawn where it is torn: the map is then as it was, with its kept knots and their index.
@@ -57,8 +59,7 @@ pub fn add_or_withdraw(
     ensures told { insert_told result.answer ≡ insertion_table millionth (store_of map) (is_listed map con) con direction ratio }
 {
     let mut added = add_control_point(map, con, direction, ratio, position);
-    let answer = added.answer;
-    if is_torn(answer) {
+    if is_torn(added.answer) {
         added.map = map;
     }
     added

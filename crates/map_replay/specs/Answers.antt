@@ -1,23 +1,16 @@
 -- Answers of the calls on a map, and the map at a list's end, against stored bytes. A call's bytes begin with its kind and its arguments; the answer's
 -- number follows them, and then what a call that is done answers besides. Floats are compared by their bits; a flag is 1 or 0.
-use Rattle.std.specs.Prelude.{ℕ, zero, suc, ◌+◌, ◌*◌, Bool, true, false, cond, ◌&&◌, List, [], eqb, ltb, Float, drop, get_or, length}
+use Rattle.std.specs.Prelude.{ℕ, zero, suc, ◌+◌, ◌*◌, Bool, true, false, cond, ◌&&◌, List, [], eqb, ltb, Float, drop, get_or, length, Err, Ok, Result, ⊤}
 use Rattle.std.specs.Float.{nan}
-use Rattle.cells.specs.declared.CellAnswer.{CellAnswer}
-use Rattle.cells.specs.declared.CellAnswer.TheVariants.{Is as Reaches, Refused as NotAsked}
 use Rattle.census.specs.declared.census.Counts.{Counts}
 use Rattle.counting.specs.Counting.{count_below}
 use Rattle.control_point.specs.Refusal.{refusal_number}
-use Rattle.control_point.specs.Told.{outcome_number}
-use Rattle.control_point.specs.declared.refusal.Outcome.{Outcome}
-use Rattle.control_point.specs.declared.refusal.Outcome.TheVariants.{Done as Settled, Refused as NotSettled}
+use Rattle.control_point.specs.Told.{number_of}
 use Rattle.grid_index.specs.Index.{no_knots}
 use Rattle.grid_index.specs.declared.Cell.{Cell}
 use Rattle.openings.specs.declared.list.Openings.{Openings}
 use Rattle.surface.specs.declared.evaluation.Evaluation.{Evaluation}
-use Rattle.surface.specs.declared.evaluation.EvaluationAnswer.{EvaluationAnswer}
-use Rattle.surface.specs.declared.evaluation.EvaluationAnswer.TheVariants.{Is, Refused as NotEvaluated}
-use Rattle.insertion.specs.declared.insertion.InsertAnswer.{InsertAnswer}
-use Rattle.insertion.specs.declared.insertion.InsertAnswer.TheVariants.{Done, Torn, Refused}
+use Rattle.insertion.specs.declared.insertion.Insertion.TheVariants.{Done, Torn}
 use Rattle.ray.specs.declared.knots.KnotsAnswer.{KnotsAnswer}
 use Rattle.ray.specs.declared.knots.PointKnots.{PointKnots}
 use Rattle.store.specs.declared.store.Store.{Store}
@@ -28,6 +21,8 @@ use Rattle.t_mesh.specs.declared.t_mesh.Place.{Place}
 use Rattle.t_mesh.specs.declared.t_mesh.Position.{Position}
 use Rattle.t_mesh.specs.declared.t_mesh.Tmesh.{Tmesh}
 use Rattle.map_replay.specs.declared.answers.Judged.{Judged}
+use Rattle.control_point.specs.declared.refusal.Refusal.{Refusal}
+use Rattle.insertion.specs.declared.insertion.Insertion.{Insertion}
 
 -- the position whose three coordinates stand at a place
 abbrev pub position_at : List ℕ → ℕ → Position
@@ -38,10 +33,10 @@ abbrev pub counts_are_right : ℕ → ℕ → List ℕ → Bool
 counts_are_right opened inferred call = eqb opened (byte_at call 36) && eqb inferred (byte_at call 37)
 
 -- an insertion held against its stored answer
-unfoldable pub insertion_judged : InsertAnswer → List ℕ → Judged
-insertion_judged (Done opened inferred) call = record { right = eqb (byte_at call 35) 0 && counts_are_right opened inferred call; bytes = 38 }
-insertion_judged (Torn opened inferred) call = record { right = eqb (byte_at call 35) 8 && counts_are_right opened inferred call; bytes = 38 }
-insertion_judged (Refused refusal) call = record { right = eqb (byte_at call 35) (refusal_number refusal); bytes = 36 }
+unfoldable pub insertion_judged : Result Insertion Refusal → List ℕ → Judged
+insertion_judged (Ok (Done opened inferred)) call = record { right = eqb (byte_at call 35) 0 && counts_are_right opened inferred call; bytes = 38 }
+insertion_judged (Ok (Torn opened inferred)) call = record { right = eqb (byte_at call 35) 8 && counts_are_right opened inferred call; bytes = 38 }
+insertion_judged (Err refusal) call = record { right = eqb (byte_at call 35) (refusal_number refusal); bytes = 36 }
 
 -- whether the first so many floats have the bits stored
 unfoldable pub first_are_right : ℕ → List Float → List ℕ → Bool
@@ -53,17 +48,17 @@ abbrev pub floats_are_right : List Float → List ℕ → Bool
 floats_are_right floats bytes = first_are_right (length floats) floats bytes
 
 -- whether a call that fills floats answered a number and the floats stored; refused, it leaves them all 0.0, whose bits are 0
-unfoldable pub outcome_is_right : Outcome → List Float → ℕ → List ℕ → Bool
-outcome_is_right Settled floats number bytes = eqb number 0 && floats_are_right floats bytes
-outcome_is_right (NotSettled refusal) floats number bytes = eqb number (refusal_number refusal) && floats_are_right floats []
+unfoldable pub outcome_is_right : Result ⊤ Refusal → List Float → ℕ → List ℕ → Bool
+outcome_is_right (Ok tt) floats number bytes = eqb number 0 && floats_are_right floats bytes
+outcome_is_right (Err refusal) floats number bytes = eqb number (refusal_number refusal) && floats_are_right floats []
 
 -- how many bytes such a call takes
-unfoldable pub bytes_taken : Outcome → ℕ → ℕ → ℕ
-bytes_taken Settled done refused = done
-bytes_taken (NotSettled refusal) done refused = refused
+unfoldable pub bytes_taken : Result ⊤ Refusal → ℕ → ℕ → ℕ
+bytes_taken (Ok tt) done refused = done
+bytes_taken (Err refusal) done refused = refused
 
 -- a ray held against its stored answer; its length stands at 3
-abbrev pub ray_judged : Outcome → List Float → List ℕ → Judged
+abbrev pub ray_judged : Result ⊤ Refusal → List Float → List ℕ → Judged
 ray_judged outcome entries call = record {
   right = outcome_is_right outcome entries (byte_at call 4) (drop 5 call);
   bytes = bytes_taken outcome (byte_at call 3 * 8 + 5) 5;
@@ -83,27 +78,27 @@ value_is_right value bytes =
     && has_bits value.weight (number_at 8 bytes 24)
 
 -- an evaluation held against its stored answer
-unfoldable pub evaluation_judged : EvaluationAnswer → List ℕ → Judged
-evaluation_judged (Is value) call = record { right = eqb (byte_at call 17) 0 && value_is_right value (drop 18 call); bytes = 50 }
-evaluation_judged (NotEvaluated refusal) call = record { right = eqb (byte_at call 17) (refusal_number refusal); bytes = 18 }
+unfoldable pub evaluation_judged : Result Evaluation Refusal → List ℕ → Judged
+evaluation_judged (Ok value) call = record { right = eqb (byte_at call 17) 0 && value_is_right value (drop 18 call); bytes = 50 }
+evaluation_judged (Err refusal) call = record { right = eqb (byte_at call 17) (refusal_number refusal); bytes = 18 }
 
 -- what was asked of a lent map, or why none was lent
-abbrev pub where_lent : Outcome → EvaluationAnswer → EvaluationAnswer
-where_lent Settled answer = answer
-where_lent (NotSettled refusal) answer = NotEvaluated refusal
+abbrev pub where_lent : Result ⊤ Refusal → Result Evaluation Refusal → Result Evaluation Refusal
+where_lent (Ok tt) answer = answer
+where_lent (Err refusal) answer = Err refusal
 
 -- a call that answers a number alone held against the one that stands behind so many bytes: the knots of all listed points, or the setting of a pull
-abbrev pub outcome_judged : Outcome → ℕ → List ℕ → Judged
-outcome_judged outcome behind call = record { right = eqb (outcome_number outcome) (byte_at call behind); bytes = behind + 1 }
+abbrev pub outcome_judged : Result ⊤ Refusal → ℕ → List ℕ → Judged
+outcome_judged outcome behind call = record { right = eqb (number_of outcome) (byte_at call behind); bytes = behind + 1 }
 
 -- whether both words of a cell and their count are those that bytes begin with
 abbrev pub cell_is_right : Cell → List ℕ → Bool
 cell_is_right words bytes = (eqb words.first (number_at 8 bytes 0) && eqb words.second (number_at 8 bytes 8)) && eqb words.count (byte_at bytes 16)
 
 -- a cell held against its stored answer
-unfoldable pub cell_judged : CellAnswer → List ℕ → Judged
-cell_judged (Reaches words) call = record { right = eqb (byte_at call 2) 0 && cell_is_right words (drop 3 call); bytes = 20 }
-cell_judged (NotAsked refusal) call = record { right = eqb (byte_at call 2) (refusal_number refusal); bytes = 3 }
+unfoldable pub cell_judged : Result Cell Refusal → List ℕ → Judged
+cell_judged (Ok words) call = record { right = eqb (byte_at call 2) 0 && cell_is_right words (drop 3 call); bytes = 20 }
+cell_judged (Err refusal) call = record { right = eqb (byte_at call 2) (refusal_number refusal); bytes = 3 }
 
 -- the counts of a map held against the stored ones, which have no number: the points made and listed in a byte each, the links and the borders in two
 abbrev pub counts_judged : Counts → List ℕ → Judged

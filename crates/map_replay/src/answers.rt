@@ -6,17 +6,16 @@ ghost use Rattle.map_replay.specs.Answers.{counts_are_right, insertion_judged, f
 ghost use Rattle.map_replay.specs.Answers.{entry_byte, entries_are_right, openings_judged, flag_is_at, listing_is_right, position_is_right, place_is_right, places_are_right, row_is_right, rows_are_right, shape_is_right, kept_are_right, map_bytes, map_is_right};
 
 use big_endian::{after, byte_at, number_at, pair_at};
-use cells::CellAnswer;
 use census::census::Counts;
-use control_point::refusal::Outcome;
+use control_point::refusal::{Refusal, number_of};
 use control_point::sides::wide;
 use grid_index::Cell;
-use insertion::insertion::InsertAnswer;
+use insertion::insertion::Insertion;
 use openings::list::Openings;
 use ray::knots::{KnotsAnswer, PointKnots};
 use store::store::Store;
 use stored_calls::points::{both, float_is_at, store_is_right};
-use surface::evaluation::{Evaluation, EvaluationAnswer};
+use surface::evaluation::Evaluation;
 use t_mesh::t_mesh::{Place, Position, Tmesh, is_listed, store_of};
 
 const CAPACITY: u8 = 128;
@@ -44,20 +43,22 @@ fn counts_are_right(opened: u8, inferred: u8, call: &[u8]) -> bool
 }
 
 // An insertion: its number, and where it made a point the two counts.
-pub fn judge_insertion(answer: InsertAnswer, call: &[u8]) -> Judged
+pub fn judge_insertion(answer: Result<Insertion, Refusal>, call: &[u8]) -> Judged
     ensures { result ≡ insertion_judged answer call.now }
 {
     let number = byte_at(call, 35);
     match answer {
-        InsertAnswer::Done(opened, inferred) => Judged {
-            right: both(number == 0, counts_are_right(opened, inferred, call)),
-            bytes: 38,
+        Ok(insertion) => match insertion {
+            Insertion::Done(opened, inferred) => Judged {
+                right: both(number == 0, counts_are_right(opened, inferred, call)),
+                bytes: 38,
+            },
+            Insertion::Torn(opened, inferred) => Judged {
+                right: both(number == 8, counts_are_right(opened, inferred, call)),
+                bytes: 38,
+            },
         },
-        InsertAnswer::Torn(opened, inferred) => Judged {
-            right: both(number == 8, counts_are_right(opened, inferred, call)),
-            bytes: 38,
-        },
-        InsertAnswer::Refused(refusal) => Judged {
+        Err(refusal) => Judged {
             right: number == refusal.number(),
             bytes: 36,
         },
@@ -69,37 +70,33 @@ fn floats_are_right(floats: &[f64], bytes: &[u8]) -> bool
     ensures { result ≡ floats_are_right floats.now bytes.now }
 {
     let mut right = true;
-    let mut n: usize = 0;
-    while n < floats.len() {
+    for n in 0..floats.len() {
         right = both(right, float_is_at(floats[n], bytes, n * 8));
-        n += 1;
     }
     right
 }
 
 // Whether an outcome has the number, and the floats are those that the bytes begin with; refused, they are all 0.0.
-fn outcome_is_right(outcome: Outcome, floats: &[f64], number: u8, bytes: &[u8]) -> bool
+fn outcome_is_right(outcome: Result<(), Refusal>, floats: &[f64], number: u8, bytes: &[u8]) -> bool
     ensures { result ≡ outcome_is_right outcome floats.now number bytes.now }
 {
     match outcome {
-        Outcome::Done => both(number == 0, floats_are_right(floats, bytes)),
-        Outcome::Refused(refusal) => {
-            both(number == refusal.number(), floats_are_right(floats, b""))
-        }
+        Ok(()) => both(number == 0, floats_are_right(floats, bytes)),
+        Err(refusal) => { both(number == refusal.number(), floats_are_right(floats, b"")) }
     }
 }
 
-fn bytes_taken(outcome: Outcome, done: usize, refused: usize) -> usize
+fn bytes_taken(outcome: Result<(), Refusal>, done: usize, refused: usize) -> usize
     ensures { result ≡ bytes_taken outcome done refused }
 {
     match outcome {
-        Outcome::Done => done,
-        Outcome::Refused(_) => refused,
+        Ok(()) => done,
+        Err(_) => refused,
     }
 }
 
 // A ray: its number, and the entries.
-pub fn judge_ray(outcome: Outcome, entries: &[f64], call: &[u8]) -> Judged
+pub fn judge_ray(outcome: Result<(), Refusal>, entries: &[f64], call: &[u8]) -> Judged
     ensures { result ≡ ray_judged outcome entries.now call.now }
 {
     let right = outcome_is_right(outcome, entries, byte_at(call, 4), after(call, 5));
@@ -133,16 +130,16 @@ fn value_is_right(value: Evaluation, bytes: &[u8]) -> bool
 }
 
 // An evaluation: its number, and the value.
-pub fn judge_evaluation(answer: EvaluationAnswer, call: &[u8]) -> Judged
+pub fn judge_evaluation(answer: Result<Evaluation, Refusal>, call: &[u8]) -> Judged
     ensures { result ≡ evaluation_judged answer call.now }
 {
     let number = byte_at(call, 17);
     match answer {
-        EvaluationAnswer::Is(value) => Judged {
+        Ok(value) => Judged {
             right: both(number == 0, value_is_right(value, after(call, 18))),
             bytes: 50,
         },
-        EvaluationAnswer::Refused(refusal) => Judged {
+        Err(refusal) => Judged {
             right: number == refusal.number(),
             bytes: 18,
         },
@@ -150,21 +147,24 @@ pub fn judge_evaluation(answer: EvaluationAnswer, call: &[u8]) -> Judged
 }
 
 // What was asked of a lent map, or why none was lent.
-pub fn where_lent(outcome: Outcome, answer: EvaluationAnswer) -> EvaluationAnswer
+pub fn where_lent(
+    outcome: Result<(), Refusal>,
+    answer: Result<Evaluation, Refusal>,
+) -> Result<Evaluation, Refusal>
     ensures { result ≡ where_lent outcome answer }
 {
     match outcome {
-        Outcome::Done => answer,
-        Outcome::Refused(refusal) => EvaluationAnswer::Refused(refusal),
+        Ok(()) => answer,
+        Err(refusal) => Err(refusal),
     }
 }
 
 // A call that answers a number alone, which stands behind so many bytes: the knots of all listed points, or the setting of a pull.
-pub fn judge_outcome(outcome: Outcome, behind: u8, call: &[u8]) -> Judged
+pub fn judge_outcome(outcome: Result<(), Refusal>, behind: u8, call: &[u8]) -> Judged
     ensures { result ≡ outcome_judged outcome behind call.now }
 {
     let at = wide(behind);
-    let right = outcome.number() == byte_at(call, at);
+    let right = number_of(&outcome) == byte_at(call, at);
     let bytes = at + 1;
     Judged { right, bytes }
 }
@@ -179,16 +179,16 @@ fn cell_is_right(words: Cell, bytes: &[u8]) -> bool
 }
 
 // A cell: its number, and both words and their count.
-pub fn judge_cell(answer: CellAnswer, call: &[u8]) -> Judged
+pub fn judge_cell(answer: Result<Cell, Refusal>, call: &[u8]) -> Judged
     ensures { result ≡ cell_judged answer call.now }
 {
     let number = byte_at(call, 2);
     match answer {
-        CellAnswer::Is(words) => Judged {
+        Ok(words) => Judged {
             right: both(number == 0, cell_is_right(words, after(call, 3))),
             bytes: 20,
         },
-        CellAnswer::Refused(refusal) => Judged {
+        Err(refusal) => Judged {
             right: number == refusal.number(),
             bytes: 3,
         },
@@ -233,8 +233,7 @@ fn entries_are_right(openings: Openings, bytes: &[u8]) -> bool
 {
     let stored = openings.count as usize * 2;
     let mut right = true;
-    let mut i: usize = 0;
-    while i < OPENINGS_ROOM {
+    for i in 0..OPENINGS_ROOM {
         let point = openings.points[i];
         let direction = openings.directions[i];
         let own = both(
@@ -242,7 +241,6 @@ fn entries_are_right(openings: Openings, bytes: &[u8]) -> bool
             direction == entry_byte(stored, bytes, i * 2 + 1),
         );
         right = both(right, own);
-        i += 1;
     }
     right
 }
@@ -274,10 +272,8 @@ fn listing_is_right(listed: [bool; 128], made: u8, bytes: &[u8]) -> bool
     ensures { result ≡ listing_is_right made listed bytes.now }
 {
     let mut right = true;
-    let mut n: u8 = 0;
-    while n < made {
+    for n in 0..made {
         right = both(right, flag_is_at(is_listed(listed, n), bytes, wide(n)));
-        n += 1;
     }
     right
 }
@@ -306,11 +302,9 @@ fn places_are_right(places: [Place; 128], made: u8, bytes: &[u8]) -> bool
     ensures { result ≡ places_are_right made places bytes.now }
 {
     let mut right = true;
-    let mut n: usize = 0;
-    while n < wide(made) {
+    for n in 0..wide(made) {
         let place = places[n];
         right = both(right, place_is_right(place, after(bytes, n * PLACE_BYTES)));
-        n += 1;
     }
     right
 }
@@ -343,10 +337,8 @@ fn listed_below(listed: [bool; 128], n: u8) -> usize
     ensures bound { result ≤ n }
 {
     let mut count: usize = 0;
-    let mut i: u8 = 0;
-    while i < n {
+    for i in 0..n {
         count += one_where(is_listed(listed, i));
-        i += 1;
     }
     count
 }
@@ -357,13 +349,11 @@ fn rows_are_right(listed: [bool; 128], knots: [PointKnots; 128], made: u8, bytes
     ensures { result ≡ rows_are_right made listed knots bytes.now }
 {
     let mut right = true;
-    let mut n: u8 = 0;
-    while n < made {
+    for n in 0..made {
         let row = knots[n as usize];
         let place = listed_below(listed, n) * ROW_BYTES;
         let own = listed_row_is_right(is_listed(listed, n), row, after(bytes, place));
         right = both(right, own);
-        n += 1;
     }
     right
 }

@@ -13,6 +13,7 @@ use crate::answers::{
 use big_endian::{after, byte_at, float_at, pair_at};
 use cells::cell_points;
 use census::counts::counts;
+use control_point::refusal::Refusal;
 use control_point::sides::wide;
 use control_point::small::closeness;
 use control_point::t_mesh_direction::TmeshDirection;
@@ -24,20 +25,15 @@ use openings::openings::openings;
 use pull::set_pull;
 use ray::knots::point_knot_vectors;
 use ray::ray::cast_ray;
-use replay::{CASE_ROOM, CaseRead, Outcome, Tally, count_outcome, is_end, outcome_of, read_case};
 use set_point::{lent_set_point, set_point};
 use std::io;
-use std::io::Read;
 use store::store::Store;
 use stored_calls::call::replay_call;
 use stored_calls::points::both;
 use stored_ledger::{DIRECT, INSERTION, WITHDRAWING, ledger_holds, no_calls, with_call};
-use surface::evaluation::EvaluationAnswer;
+use surface::evaluation::Evaluation;
 use t_mesh::add::Added;
 use t_mesh::t_mesh::{Position, Tmesh, store_of, with_store};
-
-// More lists than the file holds: the loop ends with the file.
-const MOST_LISTS: u64 = 1000000;
 
 // Where a list's calls begin.
 const CALLS: usize = 106;
@@ -62,12 +58,11 @@ const PULL: u8 = 11;
 
 const LENT_SET_POINT: u8 = 12;
 
-// A call made: the map after it, whether it answered what is stored, and how many bytes it takes.
+// A call made: the map after it, and how its answer was judged.
 #[derive(Clone, Copy)]
 struct MapReplayed {
     map: Tmesh,
-    right: bool,
-    bytes: usize,
+    judged: Judged,
 }
 
 fn position_at(bytes: &[u8], at: usize) -> Position
@@ -98,11 +93,7 @@ fn replay_insertion(kind: u8, call: &[u8], map: Tmesh) -> MapReplayed {
     let answer = added.answer;
     let judged = judge_insertion(answer, call);
     let next = added.map;
-    MapReplayed {
-        map: next,
-        right: judged.right,
-        bytes: judged.bytes,
-    }
+    MapReplayed { map: next, judged }
 }
 
 fn replay_evaluation(call: &[u8], map: Tmesh) -> MapReplayed {
@@ -110,11 +101,7 @@ fn replay_evaluation(call: &[u8], map: Tmesh) -> MapReplayed {
     let answer = evaluated.answer;
     let judged = judge_evaluation(answer, call);
     let next = evaluated.map;
-    MapReplayed {
-        map: next,
-        right: judged.right,
-        bytes: judged.bytes,
-    }
+    MapReplayed { map: next, judged }
 }
 
 fn replay_set_point(call: &[u8], map: Tmesh) -> MapReplayed {
@@ -122,11 +109,7 @@ fn replay_set_point(call: &[u8], map: Tmesh) -> MapReplayed {
     let answer = given.answer;
     let judged = judge_evaluation(answer, call);
     let next = given.map;
-    MapReplayed {
-        map: next,
-        right: judged.right,
-        bytes: judged.bytes,
-    }
+    MapReplayed { map: next, judged }
 }
 
 fn replay_cell(call: &[u8], map: Tmesh) -> MapReplayed {
@@ -134,20 +117,12 @@ fn replay_cell(call: &[u8], map: Tmesh) -> MapReplayed {
     let answer = asked.answer;
     let judged = judge_cell(answer, call);
     let next = asked.map;
-    MapReplayed {
-        map: next,
-        right: judged.right,
-        bytes: judged.bytes,
-    }
+    MapReplayed { map: next, judged }
 }
 
 fn replay_counts(call: &[u8], map: Tmesh) -> MapReplayed {
     let judged = judge_counts(counts(map), call);
-    MapReplayed {
-        map,
-        right: judged.right,
-        bytes: judged.bytes,
-    }
+    MapReplayed { map, judged }
 }
 
 // What is asked of a lent map: its set-point, or its value.
@@ -159,11 +134,11 @@ fn asked_of_lent<'a>(
     listed: &'a [bool; 128],
     s: f64,
     t: f64,
-) -> EvaluationAnswer {
+) -> Result<Evaluation, Refusal> {
     if kind == LENT_SET_POINT {
         return lent_set_point(across, upwards, places, listed, s, t);
     }
-    EvaluationAnswer::Is(lent_value(across, upwards, places, listed, s, t))
+    Ok(lent_value(across, upwards, places, listed, s, t))
 }
 
 // The arrays start with every number listed, so that what lending leaves in them is seen.
@@ -181,11 +156,7 @@ fn replay_lent(kind: u8, call: &[u8], map: Tmesh) -> MapReplayed {
     let outcome = lent.outcome;
     let judged = judge_evaluation(where_lent(outcome, answer), call);
     let next = lent.map;
-    MapReplayed {
-        map: next,
-        right: judged.right,
-        bytes: judged.bytes,
-    }
+    MapReplayed { map: next, judged }
 }
 
 fn replay_generation(call: &[u8], map: Tmesh) -> MapReplayed {
@@ -193,11 +164,7 @@ fn replay_generation(call: &[u8], map: Tmesh) -> MapReplayed {
     let outcome = generated.outcome;
     let judged = judge_outcome(outcome, 1, call);
     let next = generated.map;
-    MapReplayed {
-        map: next,
-        right: judged.right,
-        bytes: judged.bytes,
-    }
+    MapReplayed { map: next, judged }
 }
 
 fn replay_pull(call: &[u8], map: Tmesh) -> MapReplayed {
@@ -205,11 +172,7 @@ fn replay_pull(call: &[u8], map: Tmesh) -> MapReplayed {
     let outcome = pulled.outcome;
     let judged = judge_outcome(outcome, 10, call);
     let next = pulled.map;
-    MapReplayed {
-        map: next,
-        right: judged.right,
-        bytes: judged.bytes,
-    }
+    MapReplayed { map: next, judged }
 }
 
 fn ray_into(call: &[u8], store: Store, buffer: &mut [f64]) -> Judged {
@@ -231,18 +194,16 @@ fn replay_ray(call: &[u8], store: Store) -> Judged {
     ray_into(call, store, &mut buffer[0..length])
 }
 
-// A call that reads the points and leaves the map as it is: a ray, a point's knots, or the openings.
+// A call that reads the points and leaves the map as it is: a ray, the openings, or a point's knots.
 fn replay_reading(kind: u8, call: &[u8], store: Store) -> Judged {
-    if kind == RAY {
-        return replay_ray(call, store);
+    match kind {
+        RAY => replay_ray(call, store),
+        OPENINGS => judge_openings(openings(store), call),
+        _ => judge_knots(
+            point_knot_vectors(closeness(), store, byte_at(call, 1)),
+            call,
+        ),
     }
-    if kind == OPENINGS {
-        return judge_openings(openings(store), call);
-    }
-    judge_knots(
-        point_knot_vectors(closeness(), store, byte_at(call, 1)),
-        call,
-    )
 }
 
 // A call on the map's points: knots that are kept stay kept.
@@ -250,65 +211,35 @@ fn replay_direct(kind: u8, call: &[u8], map: Tmesh) -> MapReplayed {
     let replayed = replay_call(kind, call, store_of(map.mesh));
     let store = replayed.store;
     let next = with_store(map, store);
-    MapReplayed {
-        map: next,
+    let judged = Judged {
         right: replayed.right,
         bytes: replayed.bytes,
-    }
-}
-
-// Whether a call of a kind lends the map.
-fn is_lent(kind: u8) -> bool {
-    kind == LENT || kind == LENT_SET_POINT
+    };
+    MapReplayed { map: next, judged }
 }
 
 // A call that asks for a value, a cell or the counts, sets a pull, or builds the knots of all listed points.
 fn replay_value(kind: u8, call: &[u8], map: Tmesh) -> MapReplayed {
-    if kind == SET_POINT {
-        return replay_set_point(call, map);
+    match kind {
+        SET_POINT => replay_set_point(call, map),
+        CELL => replay_cell(call, map),
+        COUNTS => replay_counts(call, map),
+        PULL => replay_pull(call, map),
+        GENERATION => replay_generation(call, map),
+        LENT | LENT_SET_POINT => replay_lent(kind, call, map),
+        _ => replay_evaluation(call, map),
     }
-    if kind == CELL {
-        return replay_cell(call, map);
-    }
-    if kind == COUNTS {
-        return replay_counts(call, map);
-    }
-    if kind == PULL {
-        return replay_pull(call, map);
-    }
-    if kind == GENERATION {
-        return replay_generation(call, map);
-    }
-    if is_lent(kind) {
-        return replay_lent(kind, call, map);
-    }
-    replay_evaluation(call, map)
-}
-
-fn is_insertion(kind: u8) -> bool {
-    kind == INSERTION || kind == WITHDRAWING
-}
-
-// Whether a call of a kind reads the points alone.
-fn is_reading(kind: u8) -> bool {
-    kind == RAY || kind == KNOTS || kind == OPENINGS
 }
 
 fn replay(kind: u8, call: &[u8], map: Tmesh) -> MapReplayed {
-    if DIRECT <= kind {
-        return replay_direct(kind - DIRECT, call, map);
-    }
-    if is_insertion(kind) {
-        return replay_insertion(kind, call, map);
-    }
-    if !is_reading(kind) {
-        return replay_value(kind, call, map);
-    }
-    let judged = replay_reading(kind, call, store_of(map.mesh));
-    MapReplayed {
-        map,
-        right: judged.right,
-        bytes: judged.bytes,
+    match kind {
+        DIRECT.. => replay_direct(kind - DIRECT, call, map),
+        INSERTION | WITHDRAWING => replay_insertion(kind, call, map),
+        RAY | KNOTS | OPENINGS => {
+            let judged = replay_reading(kind, call, store_of(map.mesh));
+            MapReplayed { map, judged }
+        }
+        _ => replay_value(kind, call, map),
     }
 }
 
@@ -330,63 +261,28 @@ fn new_map(list: &[u8]) -> Tmesh {
 // Whether every call of a list answers what is stored, and the last leaves the map that is stored, behind which nothing stands; and where no direct call is among them, whether
 // the map has the counts that the stored answers of the insertions say. A list that ends within its calls is wrong.
 fn is_right(list: &[u8]) -> bool {
-    let mut map = new_map(list);
-    let mut ledger = no_calls();
-    let mut right = true;
-    let mut left = pair_at(list, 104);
-    let mut at: usize = CALLS;
     if list.len() < CALLS {
         return false;
     }
-    while 0 < left {
-        let call = after(list, at);
-        let replayed = replay(byte_at(call, 0), call, map);
-        if list.len() - at < replayed.bytes {
+    let mut map = new_map(list);
+    let mut ledger = no_calls();
+    let mut right = true;
+    let mut rest = &list[CALLS..];
+    for _ in 0..pair_at(list, 104) {
+        let replayed = replay(byte_at(rest, 0), rest, map);
+        let judged = replayed.judged;
+        if rest.len() < judged.bytes {
             return false;
         }
-        right = both(right, replayed.right);
-        at += replayed.bytes;
-        ledger = with_call(ledger, call);
-        let next = replayed.map;
-        map = next;
-        left -= 1;
+        right = both(right, judged.right);
+        ledger = with_call(ledger, rest);
+        map = replayed.map;
+        rest = &rest[judged.bytes..];
     }
-    let whole = both(right, map_is_right(map, after(list, at)));
+    let whole = both(right, map_is_right(map, rest));
     both(whole, ledger_holds(ledger, map))
 }
 
-fn judged(buffer: &[u8], bytes: usize) -> Outcome {
-    if bytes <= buffer.len() {
-        return outcome_of(is_right(&buffer[0..bytes]));
-    }
-    Outcome::Wrong
-}
-
-// The next list, judged; one that the file ends within is wrong.
-fn next_outcome<R: Read>(cases: &mut R) -> io::Result<Outcome> {
-    let mut list = [0u8; CASE_ROOM];
-    let outcome = match read_case(cases, &mut list)? {
-        CaseRead::End => Outcome::End,
-        CaseRead::Part => Outcome::Wrong,
-        CaseRead::Whole(bytes) => judged(&list, bytes),
-    };
-    Ok(outcome)
-}
-
-fn replayed<R: Read>(cases: &mut R) -> io::Result<Tally> {
-    let mut tally = Tally { right: 0, wrong: 0 };
-    for _ in 0..MOST_LISTS {
-        let outcome = next_outcome(cases)?;
-        if is_end(outcome) {
-            break;
-        }
-        tally = count_outcome(tally, outcome);
-    }
-    Ok(tally)
-}
-
 fn main(rt: HostRuntime) -> io::Result<()> {
-    let mut cases = replay::open_cases(&rt)?;
-    let tally = replayed(&mut cases)?;
-    replay::report(&rt, tally)
+    replay::run(&rt, is_right)
 }

@@ -9,7 +9,9 @@ ghost use Rattle.lent_points.specs.Lent.{Room};
 ghost use Rattle.map_file.specs.Run.{file_map, file_numbers};
 
 use big_endian::{float_at, put_byte};
+use insertion::insertion::answer_number;
 use lent_corners::lend_corners;
+use lent_mesh::LentMesh;
 use map_file::edit::{next_place, run_edit};
 use map_format::format::{
     BORDER_AT, CORNERS_AT, EDITS_AT, POSITION_BYTES, file_withdraws, position_at,
@@ -19,31 +21,13 @@ use t_mesh::t_mesh::Tmesh;
 
 // The map of a file's border and corners and so many of its edits, into the arrays of a lent mesh, whatever they held. The file is one that
 // `validate` has passed. The answer number of each edit is noted, as far as there is room.
-pub fn run_lent(
-    file: &[u8],
-    count: usize,
-    notes: &mut [u8],
-    kinds: &mut [u8; 512],
-    numbers: &mut [u8; 512],
-    intervals: &mut [f64; 512],
-    coordinates: &mut [f64; 256],
-    made: &mut u8,
-    positions: &mut [[f64; 3]; 128],
-    listed: &mut [bool; 128],
-)
-    requires { Room kinds.old numbers.old intervals.old coordinates.old }
-    ensures map { lent_map kinds.new numbers.new intervals.new coordinates.new made.new positions.new listed.new
-        ≡ file_map millionth file.now count }
+pub fn run_lent(file: &[u8], count: usize, notes: &mut [u8], mesh: &mut LentMesh)
+    requires { Room mesh.old.points }
+    ensures map { lent_map mesh.new ≡ file_map millionth file.now count }
     ensures notes { notes.new ≡ written notes.old 0 (file_numbers millionth file.now count) }
 {
     lend_corners(
-        kinds,
-        numbers,
-        intervals,
-        coordinates,
-        made,
-        positions,
-        listed,
+        mesh,
         float_at(file, BORDER_AT),
         position_at(file, CORNERS_AT),
         position_at(file, CORNERS_AT + POSITION_BYTES),
@@ -52,23 +36,10 @@ pub fn run_lent(
     );
     let withdraws = file_withdraws(file);
     let mut at = EDITS_AT;
-    let mut n: usize = 0;
-    while n < count {
-        let answer = run_edit(
-            withdraws,
-            file,
-            at,
-            kinds,
-            numbers,
-            intervals,
-            coordinates,
-            made,
-            positions,
-            listed,
-        );
-        put_byte(notes, n, answer.number());
+    for n in 0..count {
+        let answer = run_edit(withdraws, file, at, mesh);
+        put_byte(notes, n, answer_number(answer));
         at = next_place(file, at);
-        n += 1;
     }
 }
 
@@ -77,33 +48,7 @@ pub fn run_edits(file: &[u8], count: usize, notes: &mut [u8]) -> Tmesh
     ensures map { result ≡ file_map millionth file.now count }
     ensures notes { notes.new ≡ written notes.old 0 (file_numbers millionth file.now count) }
 {
-    let mut kinds = [0u8; 512];
-    let mut numbers = [0u8; 512];
-    let mut intervals = [0.0; 512];
-    let mut coordinates = [0.0; 256];
-    let mut made: u8 = 0;
-    let row = [0.0; 3];
-    let mut positions = [row; 128];
-    let mut listed = [false; 128];
-    run_lent(
-        file,
-        count,
-        notes,
-        &mut kinds,
-        &mut numbers,
-        &mut intervals,
-        &mut coordinates,
-        &mut made,
-        &mut positions,
-        &mut listed,
-    );
-    packed_map(
-        &kinds,
-        &numbers,
-        &intervals,
-        &coordinates,
-        made,
-        &positions,
-        &listed,
-    )
+    let mut mesh = LentMesh::blank();
+    run_lent(file, count, notes, &mut mesh);
+    packed_map(&mesh)
 }

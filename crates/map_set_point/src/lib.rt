@@ -10,70 +10,38 @@ ghost use Rattle.surface.specs.SetPoint.{weighed, set_point};
 
 use control_point::refusal::Refusal;
 use control_point::small::closeness;
-use counted_file::FileCheck;
 use lent_evaluation::lent_answer;
+use lent_mesh::LentMesh;
 use map_format::format::validate;
 use map_run::run_lent;
 use set_point_check::{on_map, weighed};
-use surface::evaluation::EvaluationAnswer;
+use surface::evaluation::Evaluation;
 
 // On the map, after so many edits, with no room for notes. The mesh stays lent from its corners to the answer: no map stands by value.
-fn edited_set_point(file: &[u8], count: usize, s: f64, t: f64) -> EvaluationAnswer
+fn edited_set_point(file: &[u8], count: usize, s: f64, t: f64) -> Result<Evaluation, Refusal>
     ensures { result ≡ weighed (subs_of millionth (file_map millionth file.now count) s t).answer }
 {
-    let mut kinds = [0u8; 512];
-    let mut numbers = [0u8; 512];
-    let mut intervals = [0.0; 512];
-    let mut coordinates = [0.0; 256];
-    let mut made: u8 = 0;
-    let row = [0.0; 3];
-    let mut positions = [row; 128];
-    let mut listed = [false; 128];
+    let mut mesh = LentMesh::blank();
     let mut notes = [0u8; 0];
-    run_lent(
-        file,
-        count,
-        &mut notes,
-        &mut kinds,
-        &mut numbers,
-        &mut intervals,
-        &mut coordinates,
-        &mut made,
-        &mut positions,
-        &mut listed,
-    );
-    weighed(lent_answer(
-        closeness(),
-        &kinds,
-        &numbers,
-        &intervals,
-        &coordinates,
-        made,
-        &positions,
-        &listed,
-        s,
-        t,
-    ))
+    run_lent(file, count, &mut notes, &mut mesh);
+    weighed(lent_answer(closeness(), &mesh, s, t))
 }
 
 // Of a valid file; off the map no edit is run.
-fn valid_set_point(file: &[u8], count: usize, s: f64, t: f64) -> EvaluationAnswer
+fn valid_set_point(file: &[u8], count: usize, s: f64, t: f64) -> Result<Evaluation, Refusal>
     ensures { result ≡ (set_point millionth (file_map millionth file.now count) s t).answer }
 {
     if !on_map(s, t) {
-        return EvaluationAnswer::Refused(Refusal::OffMap);
+        return Err(Refusal::OffMap);
     }
     edited_set_point(file, count, s, t)
 }
 
 // The set-point of a file at (s, t); a refused file runs nothing.
-pub fn file_set_point(file: &[u8], s: f64, t: f64) -> EvaluationAnswer
+pub fn file_set_point(file: &[u8], s: f64, t: f64) -> Result<Evaluation, Refusal>
     ensures is { result ≡ file_set_point millionth file.now s t }
     ensures told { evaluation_told result ≡ file_set_point_table millionth file.now s t }
 {
-    let check = validate(file);
-    match check {
-        FileCheck::Valid(count) => valid_set_point(file, count, s, t),
-        FileCheck::Refused(refusal) => EvaluationAnswer::Refused(refusal),
-    }
+    let count = validate(file)?;
+    valid_set_point(file, count, s, t)
 }

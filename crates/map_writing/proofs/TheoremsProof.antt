@@ -1,5 +1,5 @@
 -- Each part of a file stands behind parts of known length, at the place where it is read.
-use Rattle.std.specs.Prelude.{ℕ, zero, suc, ◌+◌, ◌*◌, ◌-◌, ◌/◌, ◌%◌, ◌≤◌, ◌<◌, ◌≡◌, true, leb, Float}
+use Rattle.std.specs.Prelude.{ℕ, zero, suc, ◌+◌, ◌*◌, ◌-◌, ◌/◌, ◌%◌, ◌≤◌, ◌<◌, ◌≡◌, true, leb, Float, Ok}
 use Rattle.std.proofs.Math.Path.{refl, ap}
 use Rattle.std.proofs.Common.{◌∙◌, mod-lt, lit<, length-append, lt-ltb, le-leb, leb-true, eq-eqb}
 use mathlib.Core.List.{List, [], ◌∷◌, ◌++◌, append_assoc}
@@ -14,7 +14,6 @@ use Rattle.big_endian.proofs.WrittenLaws.{length_bytes}
 use Rattle.control_point.specs.Direction.{direction_number, direction_numbered}
 use Rattle.control_point.proofs.DirectionLaws.{number_small, numbered_number}
 use Rattle.counted_file.specs.Counted.{count_bytes, version_at, counted_right}
-use Rattle.counted_file.specs.declared.FileCheck.TheVariants.{Valid}
 use Rattle.counting.proofs.BoolLaws.{and_both}
 use Rattle.map_format.specs.Format.{border_at, corners_at, position_bytes, edits_at, edit_bytes, most_edits, direction_in, ratio_in, position_in, first_version, last_version, is_version, position_at, bytes_of_position, Edit, edit_at, bytes_of_edit, edits_from, bytes_of_edits, head_of, bytes_of_head, edit_count, edits_of, file_length, front_of, file_of, headings_right, checked_file}
 use Rattle.map_format.specs.declared.format.Head.{Head}
@@ -77,7 +76,7 @@ headings_in (edit ∷ rest) before text at parts place =
 -- ---- the whole file
 -- a file is valid by its length, its count, its version and its headings
 valid_by : (bytes : List ℕ) (count version : ℕ) → count ≤ most_edits → length bytes ≡ file_length count → count_bytes + number_at count_bytes bytes 0 ≡ file_length count
-    → byte_at bytes version_at ≡ version → is_version version ≡ true → headings_right count bytes edits_at ≡ true → checked_file bytes ≡ Valid count
+    → byte_at bytes version_at ≡ version → is_version version ≡ true → headings_right count bytes edits_at ≡ true → checked_file bytes ≡ Ok count
 unfolding checked_file counted_right
 valid_by bytes count version few long said is-there version-right headings =
     let edits : (file_length count - edits_at) / edit_bytes ≡ count = omega arith in
@@ -116,7 +115,7 @@ module _ (head : Head) (edits : List Edit) where
   count_back few =
       ap (λ (n : ℕ). count_bytes + n) (number_in count_bytes (file_length (length edits) - count_bytes) [] behind_size text 0 (omega arith) size_first refl) ∙ omega arith
 
-  file_valid : is_version head.version ≡ true → length edits ≤ most_edits → checked_file text ≡ Valid (length edits)
+  file_valid : is_version head.version ≡ true → length edits ≤ most_edits → checked_file text ≡ Ok (length edits)
   unfolding file_of
   file_valid known few =
       valid_by text (length edits) head.version few (length_file head edits) (count_back few) version_back known

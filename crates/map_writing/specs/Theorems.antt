@@ -1,8 +1,7 @@
 -- Theorems on writing a map file: statements only, with what they speak of.
-use Rattle.std.specs.Prelude.{ℕ, ◌≤◌, ◌<◌, ◌≡◌, true, List, [], ◌∷◌, T, Float, length}
+use Rattle.std.specs.Prelude.{ℕ, ◌≤◌, ◌<◌, ◌≡◌, true, List, [], ◌∷◌, T, Float, length, Ok}
 use Rattle.std.specs.Float.{binary64}
 use Rattle.std.specs.Float.Ieee.{fits}
-use Rattle.counted_file.specs.declared.FileCheck.TheVariants.{Valid}
 use Rattle.map_format.specs.Format.{most_edits, is_version, Edit, head_of, edits_of, file_of, checked_file}
 use Rattle.map_format.specs.declared.format.Head.{Head}
 use Rattle.t_mesh.specs.declared.t_mesh.Position.{Position}
@@ -40,4 +39,4 @@ WrittenIsRead =
     → length edits ≤ most_edits
     → FitHead head
     → FitEdits edits
-    → AreBytes (file_of head edits) × (checked_file (file_of head edits) ≡ Valid (length edits)) × (head_of (file_of head edits) ≡ head) × (edits_of (file_of head edits) ≡ edits)
+    → AreBytes (file_of head edits) × (checked_file (file_of head edits) ≡ Ok (length edits)) × (head_of (file_of head edits) ≡ head) × (edits_of (file_of head edits) ≡ edits)

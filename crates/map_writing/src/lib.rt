@@ -15,33 +15,20 @@ use map_format::format::{
 };
 use t_mesh::t_mesh::Position;
 
-// What a call that writes a file into a lent buffer answers.
-#[derive(Clone, Copy)]
-pub enum WriteAnswer {
-    // How many bytes the file has.
-    Is(usize),
-    Refused(Refusal),
+// How many bytes a call wrote that writes a file into a lent buffer, and answers how many the file has: none, where it is refused.
+pub fn bytes_written(answer: Result<usize, Refusal>) -> usize
+    ensures { result ≡ bytes_written answer }
+{
+    answer.unwrap_or(0)
 }
 
-impl WriteAnswer {
-    // How many bytes were written: none, where it is refused.
-    pub fn bytes_written(self) -> usize
-        ensures { result ≡ bytes_written self }
-    {
-        match self {
-            WriteAnswer::Is(bytes) => bytes,
-            WriteAnswer::Refused(_) => 0,
-        }
-    }
-
-    // What a C call returns: the length, or the refusal's number.
-    pub fn length_or_number(self) -> u64
-        ensures { result ≡ length_or_number (write_told self) }
-    {
-        match self {
-            WriteAnswer::Is(bytes) => bytes as u64,
-            WriteAnswer::Refused(refusal) => refusal.number() as u64,
-        }
+// What a C call returns of such an answer: the length, or the refusal's number.
+pub fn length_or_number(answer: Result<usize, Refusal>) -> u64
+    ensures { result ≡ length_or_number (write_told answer) }
+{
+    match answer {
+        Ok(bytes) => bytes as u64,
+        Err(refusal) => u64::from(refusal.number()),
     }
 }
 
@@ -59,9 +46,8 @@ pub fn put_edit(buffer: &mut [u8], at: usize, target: EditTarget, position: Posi
     requires { at + edit_bytes ≤ file_length most_edits }
     ensures { buffer.new ≡ written buffer.old at (bytes_of_edit (edit_of target position)) }
 {
-    let direction = target.direction;
     put_byte(buffer, at, target.point);
-    put_byte(buffer, at + DIRECTION_IN, direction.number());
+    put_byte(buffer, at + DIRECTION_IN, target.direction.number());
     put_float(buffer, at + RATIO_IN, target.ratio);
     put_position(buffer, at + POSITION_IN, position);
 }
@@ -79,15 +65,11 @@ pub fn put_front(buffer: &mut [u8], edits: usize, head: Head)
     requires { edits ≤ most_edits }
     ensures { buffer.new ≡ written buffer.old 0 (front_of edits head) }
 {
-    let bottom_left = head.bottom_left;
-    let bottom_right = head.bottom_right;
-    let top_right = head.top_right;
-    let top_left = head.top_left;
     put_length(buffer, 0, file_length(edits) - COUNT_BYTES);
     put_byte(buffer, VERSION_AT, head.version);
     put_float(buffer, BORDER_AT, head.border);
-    put_position(buffer, CORNERS_AT, bottom_left);
-    put_position(buffer, CORNERS_AT + POSITION_BYTES, bottom_right);
-    put_position(buffer, CORNERS_AT + 2 * POSITION_BYTES, top_right);
-    put_position(buffer, CORNERS_AT + 3 * POSITION_BYTES, top_left);
+    put_position(buffer, CORNERS_AT, head.bottom_left);
+    put_position(buffer, CORNERS_AT + POSITION_BYTES, head.bottom_right);
+    put_position(buffer, CORNERS_AT + 2 * POSITION_BYTES, head.top_right);
+    put_position(buffer, CORNERS_AT + 3 * POSITION_BYTES, head.top_left);
 }

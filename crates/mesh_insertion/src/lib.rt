@@ -4,11 +4,10 @@
 ghost use Rattle.std.specs.Prelude.{◌≡◌};
 ghost use Rattle.t_mesh.specs.Insertion.{insert_into_mesh};
 
-use control_point::t_mesh_control_point::is_made;
 use control_point::t_mesh_direction::TmeshDirection;
 use insertion::insertion::{is_done, is_refused};
 use lent_insertion::insert_point;
-use lent_points::{lent_point, put_lent_point};
+use lent_points::LentPoints;
 use t_mesh::add::InsertedMesh;
 use t_mesh::t_mesh::{Mesh, Position, is_listed, unpulled};
 
@@ -24,46 +23,18 @@ pub fn insert_into(
     ensures { result ≡ insert_into_mesh closeness mesh con direction ratio position }
 {
     let p = mesh.made;
-    let mut kinds = [0u8; 512];
-    let mut numbers = [0u8; 512];
-    let mut intervals = [0.0; 512];
-    let mut coordinates = [0.0; 256];
-    let mut n: u8 = 0;
-    while is_made(p, n) {
-        let point = mesh.points[n as usize];
-        put_lent_point(
-            &mut kinds,
-            &mut numbers,
-            &mut intervals,
-            &mut coordinates,
-            n,
-            point,
-        );
-        n += 1;
+    let mut points = LentPoints::blank();
+    for n in 0..p.min(128) {
+        points.put_lent_point(n, mesh.points[n as usize]);
     }
     let listed = is_listed(mesh.listed, con);
-    let answer = insert_point(
-        closeness,
-        &mut kinds,
-        &mut numbers,
-        &mut intervals,
-        &mut coordinates,
-        p,
-        listed,
-        con,
-        direction,
-        ratio,
-    );
+    let answer = insert_point(closeness, &mut points, p, listed, con, direction, ratio);
     if !is_refused(answer) {
-        let mut packed: u8 = 0;
-        while packed <= p {
-            let point = lent_point(&kinds, &numbers, &intervals, &coordinates, packed);
-            mesh.points[packed as usize] = point;
-            packed += 1;
+        for n in 0..p + 1 {
+            mesh.points[n as usize] = points.lent_point(n);
         }
         mesh.made = p + 1;
-        let place = unpulled(position);
-        mesh.places[p as usize] = place;
+        mesh.places[p as usize] = unpulled(position);
         mesh.listed[p as usize] = is_done(answer);
     }
     InsertedMesh { answer, mesh }

@@ -1,13 +1,11 @@
 -- Laws of direct calls: each of them either is refused and leaves the store as it was, or is done and keeps it sound.
-use Rattle.std.specs.Prelude.{ℕ, ◌≡◌, true, false, cond, ltb, Float}
+use Rattle.std.specs.Prelude.{ℕ, ◌≡◌, true, false, cond, ltb, Float, Err, Ok, Result, ⊤}
 use Rattle.std.proofs.Math.Path.{refl}
 use Rattle.std.proofs.Common.{ap, ◌∙◌, ltb-true}
 use Rattle.control_point.specs.Connect.{connectable}
 use Rattle.control_point.specs.Point.{side_of, is_link, is_border, is_made, loose_point}
 use Rattle.control_point.proofs.PointLaws.{is_made_made, is_made_room}
 use Rattle.control_point.specs.Told.{outcome_number}
-use Rattle.control_point.specs.declared.refusal.Outcome.{Outcome}
-use Rattle.control_point.specs.declared.refusal.Outcome.TheVariants.{Done, Refused}
 use Rattle.control_point.specs.declared.refusal.Refusal.{Refusal}
 use Rattle.control_point.specs.declared.refusal.Refusal.TheVariants.{OpenSide, Taken, Full, NoPoint}
 use Rattle.control_point.specs.declared.t_mesh_direction.TmeshDirection.{TmeshDirection}
@@ -58,11 +56,11 @@ module _ (store : Store) where
   unfolding connect_points
   settles_connect first other d interval = by_test (connectable (store_sides store) store.made first other d) refl
     where
-      by_test : (outcome : Outcome) → connectable (store_sides store) store.made first other d ≡ outcome
+      by_test : (outcome : Result ⊤ Refusal) → connectable (store_sides store) store.made first other d ≡ outcome
           → Settles store (settled outcome (linked store first other d interval) store)
-      by_test Done e =
+      by_test (Ok tt) e =
           changes _ (λ sound. sound_linked store sound first other d interval (done_joining store.made (store_sides store) first other d e))
-      by_test (Refused refusal) e = refuses refusal
+      by_test (Err refusal) e = refuses refusal
 
   -- a call on one point is settled if it is where the point is made
   settles_on : (n : ℕ) (changed : Changed) → (is_made store.made n ≡ true → Settles store changed)

@@ -1,6 +1,6 @@
 -- Laws of mirrored links. One law of change says when they stay mirrored; that a store stays sound with one point more, with two
 -- points linked, with a link cut and with a border changed are its instances.
-use Rattle.std.specs.Prelude.{ℕ, ◌<◌, ◌≤◌, ◌+◌, ◌≡◌, refl, Bool, true, false, cond, ◌&&◌, ◌||◌, List, eqb, Float, length}
+use Rattle.std.specs.Prelude.{ℕ, ◌<◌, ◌≤◌, ◌+◌, ◌≡◌, refl, Bool, true, false, cond, ◌&&◌, ◌||◌, List, eqb, Float, length, Ok, Result, ⊤}
 use Rattle.std.proofs.Common.{sym, ap, ◌∙◌, subst, arith, length-set}
 use borrow.Author.Tests.{eqb-true, eqb-false, eq-eqb, ne_eqb}
 use Rattle.control_point.specs.Connect.{connectable}
@@ -9,8 +9,6 @@ use Rattle.control_point.proofs.DirectionLaws.{flip_flip, same_self, same_true}
 use Rattle.control_point.specs.Point.{side_of, with_side, is_link, is_opening, is_made}
 use Rattle.control_point.proofs.PointLaws.{is_made_made, made_is_made}
 use Rattle.control_point.specs.Sides.{Sides, sides_of, sides_with, sides_with_point}
-use Rattle.control_point.specs.declared.refusal.Outcome.{Outcome}
-use Rattle.control_point.specs.declared.refusal.Outcome.TheVariants.{Done}
 use Rattle.control_point.specs.declared.refusal.Refusal.TheVariants.{NoPoint, Itself, Taken}
 use Rattle.control_point.specs.declared.t_mesh_direction.TmeshDirection.{TmeshDirection}
 use Rattle.control_point.specs.declared.t_mesh_control_point.Side.{Side}
@@ -22,6 +20,7 @@ use Rattle.store.specs.declared.store.Store.{Store}
 use Rattle.counting.proofs.BoolLaws.{both_ways, cond_case, and_both, or_case, or_none}
 use Rattle.mirror.specs.Mirror.{MirrorOf, Mirrored, Sound, Joining}
 use Rattle.store.proofs.StoreLaws.{side_read, room_kept, sides_new, sides_point, sides_side, sides_linked}
+use Rattle.control_point.specs.declared.refusal.Refusal.{Refusal}
 
 -- ---- what a side is
 -- a link passes the test for links
@@ -152,12 +151,12 @@ module _ (made : ℕ) (sides : Sides) (first other : ℕ) (d : TmeshDirection) (
 
 -- ---- connecting is done just where the two sides may be joined
 module _ (made : ℕ) (sides : Sides) (first other : ℕ) (d : TmeshDirection) where
-  pub joining_done : made ≤ 128 → Joining made sides first other d → connectable sides made first other d ≡ Done
+  pub joining_done : made ≤ 128 → Joining made sides first other d → connectable sides made first other d ≡ Ok tt
   unfolding connectable
   joining_done fits j =
       rw (made_is_made made first fits j.first_made, made_is_made made other fits j.other_made, ne_eqb first other j.apart, j.first_open, j.other_open)
 
-  pub done_joining : connectable sides made first other d ≡ Done → Joining made sides first other d
+  pub done_joining : connectable sides made first other d ≡ Ok tt → Joining made sides first other d
   unfolding connectable
   done_joining =
       cond_case (is_made made first && is_made made other) P _ _
@@ -166,8 +165,8 @@ module _ (made : ℕ) (sides : Sides) (first other : ℕ) (d : TmeshDirection) w
       (λ s. cond_case (is_opening (sides first d) && is_opening (sides other (flip_of d))) P _ _ (λ o h. joining m s o) (λ o. refused_not Taken)))
       (λ m. refused_not NoPoint)
     where
-      P : Outcome → Type 0
-      P outcome = outcome ≡ Done → Joining made sides first other d
+      P : Result ⊤ Refusal → Type 0
+      P outcome = outcome ≡ Ok tt → Joining made sides first other d
 
       joining : (is_made made first && is_made made other) ≡ true → eqb first other ≡ false
           → (is_opening (sides first d) && is_opening (sides other (flip_of d))) ≡ true → Joining made sides first other d

@@ -1,6 +1,6 @@
 -- A walk does what its answer says, by induction on the moves left: those made and those left are as many as the points.
 use Prim.Native.Nat.{ℕ, zero, suc, ◌≤◌, ◌+◌, ◌-◌}
-use Rattle.std.specs.Prelude.{◌≡◌, refl, false, Float}
+use Rattle.std.specs.Prelude.{◌≡◌, refl, false, Float, Err, Ok, Result}
 use Rattle.std.proofs.Math.Path.{ap, subst}
 use Rattle.std.proofs.Common.{arith}
 use Rattle.std.specs.Float.Ieee.{binary64, add}
@@ -12,19 +12,19 @@ use Rattle.navigation.specs.Walk.{walk_number, step_over, arrive, onward, walk_o
 use Rattle.control_point.specs.declared.t_mesh_direction.TmeshDirection.{TmeshDirection}
 use Rattle.control_point.specs.declared.t_mesh_control_point.Side.{Side}
 use Rattle.control_point.specs.declared.t_mesh_control_point.Side.TheVariants.{Link, Border, Opening}
-use Rattle.navigation.specs.declared.walk.Walk.{Walk}
-use Rattle.navigation.specs.declared.walk.Walk.TheVariants.{Reached, Refused}
 use Rattle.counting.proofs.BoolLaws.{cond_case}
 use Rattle.mirror.specs.Theorems.{Moved, first, next, Walked, Ringed, MovesAreSteps, RingIsNeeded}
+use Rattle.control_point.specs.declared.refusal.Refusal.{Refusal}
+use Rattle.navigation.specs.declared.walk.Walk.{Walk}
 
 module _ (sides : Sides) (made start : ℕ) (travel watch : TmeshDirection) where
   -- what an answer says
-  abbrev Says : Walk → Type 0
-  Says (Reached n sum moves) = Walked sides made start travel watch n sum moves
-  Says (Refused refusal) = refusal_number refusal ≡ 9 → Ringed sides made start travel watch
+  abbrev Says : Result Walk Refusal → Type 0
+  Says (Ok walk) = Walked sides made start travel watch walk.at walk.sum walk.moves
+  Says (Err refusal) = refusal_number refusal ≡ 9 → Ringed sides made start travel watch
 
   -- over a side: said by the walk from the next point, for a side that is no link is no ring
-  over : (side : Side) (go : ℕ → Float → Walk) → ((n : ℕ) (interval : Float) → side ≡ Link n interval → Says (go n interval))
+  over : (side : Side) (go : ℕ → Float → Result Walk Refusal) → ((n : ℕ) (interval : Float) → side ≡ Link n interval → Says (go n interval))
       → Says (step_over side go)
   over (Link n interval) go says = says n interval refl
   over (Border weight) go says = λ h. absurd (omega arith)
@@ -32,7 +32,7 @@ module _ (sides : Sides) (made start : ℕ) (travel watch : TmeshDirection) wher
 
   module _ (at : ℕ) (sum : Float) (moves : ℕ) (some : 1 ≤ moves) (few : moves ≤ made) (way : Moved sides travel watch start moves at sum) where
     -- at a point: said there, or by the walk from the next point
-    arrives : (go : ℕ → Float → Walk)
+    arrives : (go : ℕ → Float → Result Walk Refusal)
         → ((n : ℕ) (interval : Float) → is_link (sides at watch) ≡ false → sides at travel ≡ Link n interval → Says (go n interval))
         → Says (arrive sides made travel watch at sum moves go)
     arrives go says =
@@ -69,9 +69,9 @@ module _ (sides : Sides) (made start : ℕ) (travel watch : TmeshDirection) wher
       (λ n interval e. onwards (made - 1) n interval 1 (omega arith) (let l = is_made_made made start h in omega arith) (first e)))
       (λ h nine. absurd (omega arith))
 
-  nine_says : (walk : Walk) → Says walk → walk_number walk ≡ 9 → Ringed sides made start travel watch
-  nine_says (Reached n sum moves) says nine = absurd (omega arith)
-  nine_says (Refused refusal) says nine = says nine
+  nine_says : (walk : Result Walk Refusal) → Says walk → walk_number walk ≡ 9 → Ringed sides made start travel watch
+  nine_says (Ok walk) says nine = absurd (omega arith)
+  nine_says (Err refusal) says nine = says nine
 
 pub moves_are_steps : MovesAreSteps
 moves_are_steps sides made start travel watch n sum moves e = subst (Says sides made start travel watch) e (walks sides made start travel watch)

@@ -1,15 +1,14 @@
 -- Theorems on direct calls: statements only, with what they speak of.
-use Rattle.std.specs.Prelude.{ℕ, ◌<◌, ◌≤◌, ◌+◌, ◌≡◌, true, false, List, [], ◌∷◌, Float}
+use Rattle.std.specs.Prelude.{ℕ, ◌<◌, ◌≤◌, ◌+◌, ◌≡◌, true, false, List, [], ◌∷◌, Float, Ok}
 use Rattle.std.specs.Float.{binary64}
 use Rattle.std.specs.Float.Ieee.{add}
 use Rattle.float64.specs.Literals.{one_literal}
 use Rattle.control_point.specs.Point.{is_link}
 use Rattle.control_point.specs.Sides.{Sides}
-use Rattle.navigation.specs.Walk.{walk_of, walk_number}
+use Rattle.navigation.specs.Walk.{walk_of, walk_number, walk_to}
 use Rattle.control_point.specs.declared.t_mesh_direction.TmeshDirection.{TmeshDirection}
 use Rattle.control_point.specs.declared.t_mesh_direction.TmeshDirection.TheVariants.{Up, Right, Left}
 use Rattle.control_point.specs.declared.t_mesh_control_point.Side.TheVariants.{Link}
-use Rattle.navigation.specs.declared.walk.Walk.TheVariants.{Reached}
 use Rattle.store.specs.Store.{empty_store}
 use Rattle.store.specs.declared.store.Store.{Store}
 use Rattle.mirror.specs.Calls.{Call, make_loose_call, connect, remove_edge_condition_call, navigate_until_con_call, call_store, call_number, run_calls, call_numbers}
@@ -46,7 +45,7 @@ pub record Walked (sides : Sides) (made start : ℕ) (travel watch : TmeshDirect
 abbrev pub MovesAreSteps : Type 0
 MovesAreSteps =
     (sides : Sides) (made start : ℕ) (travel watch : TmeshDirection) (n : ℕ) (sum : Float) (moves : ℕ)
-    → walk_of sides made start travel watch ≡ Reached n sum moves → Walked sides made start travel watch n sum moves
+    → walk_of sides made start travel watch ≡ Ok (walk_to n sum moves) → Walked sides made start travel watch n sum moves
 
 -- a walk that has made as many moves as points are made, and would go on: the point where it stands has no link on its watch side and
 -- one along travel
@@ -63,7 +62,7 @@ RingIsNeeded =
     (sides : Sides) (made start : ℕ) (travel watch : TmeshDirection) → walk_number (walk_of sides made start travel watch) ≡ 9
     → Ringed sides made start travel watch
 
--- ---- document 01's reading: two loose points linked Right both ways
+-- ---- a reading: two loose points linked Right both ways
 -- two points made, their Right and Left sides opened, then both links made
 abbrev pub ring_calls : List Call
 ring_calls =

@@ -1,2 +1,2 @@
-// That links are mirrored, and theorems on lists of direct calls: definitions, laws and proofs in specs/, no function.
+// That links are mirrored, and theorems on lists of direct calls: definitions and statements in specs/, laws and proofs in proofs/, no function.
 #![tactic(auto)]

@@ -1,6 +1,6 @@
 -- A walk tells what its table says.
 use Prim.Native.Nat.{ℕ, zero, suc, ◌+◌, ◌-◌}
-use Rattle.std.specs.Prelude.{◌≡◌, Bool, cond, Float}
+use Rattle.std.specs.Prelude.{◌≡◌, Bool, cond, Float, Err, Ok, Result}
 use Rattle.std.proofs.Math.Path.{refl}
 use Rattle.std.proofs.Math.Bool.{true, false}
 use Rattle.std.specs.Float.Ieee.{binary64, add}
@@ -12,23 +12,23 @@ use Rattle.control_point.specs.declared.t_mesh_control_point.Side.{Side}
 use Rattle.control_point.specs.declared.t_mesh_control_point.Side.TheVariants.{Link, Border, Opening}
 use Rattle.control_point.specs.declared.t_mesh_direction.TmeshDirection.{TmeshDirection}
 use Rattle.navigation.specs.Table.{step_table, arrive_table, onward_table, walk_table}
-use Rattle.navigation.specs.Walk.{reached_told, walk_told, step_over, arrive, onward, walk_of}
+use Rattle.navigation.specs.Walk.{reached_told, walk_told, step_over, arrive, onward, walk_of, walk_to}
+use Rattle.control_point.specs.declared.refusal.Refusal.{Refusal}
 use Rattle.navigation.specs.declared.walk.Walk.{Walk}
-use Rattle.navigation.specs.declared.walk.Walk.TheVariants.{Reached, Refused}
 
-step_told : (side : Side) (next : ℕ → Float → Walk) (tells-next : ℕ → Float → Told) → ((n : ℕ) (interval : Float) → walk_told (next n interval) ≡ tells-next n interval)
+step_told : (side : Side) (next : ℕ → Float → Result Walk Refusal) (tells-next : ℕ → Float → Told) → ((n : ℕ) (interval : Float) → walk_told (next n interval) ≡ tells-next n interval)
     → walk_told (step_over side next) ≡ step_table side tells-next
 step_told (Link n interval) next tells-next h = h n interval
 step_told (Border weight) next tells-next h = refl
 step_told Opening next tells-next h = refl
 
 module _ (sides : Sides) (made : ℕ) (travel watch : TmeshDirection) where
-  arrive_told : (at : ℕ) (sum : Float) (moves : ℕ) (next : ℕ → Float → Walk) (tells-next : ℕ → Float → Told) → ((n : ℕ) (interval : Float) → walk_told (next n interval) ≡ tells-next n interval)
+  arrive_told : (at : ℕ) (sum : Float) (moves : ℕ) (next : ℕ → Float → Result Walk Refusal) (tells-next : ℕ → Float → Told) → ((n : ℕ) (interval : Float) → walk_told (next n interval) ≡ tells-next n interval)
       → walk_told (arrive sides made travel watch at sum moves next) ≡ arrive_table sides made travel watch at sum moves tells-next
   arrive_told at sum moves next tells-next h = by_tests (is_made made at) (is_link (sides at watch))
     where
       by_tests : (a b : Bool)
-          → walk_told (cond a (cond b (Reached at sum moves) (step_over (sides at travel) next)) (Refused NoPoint))
+          → walk_told (cond a (cond b (Ok (walk_to at sum moves)) (step_over (sides at travel) next)) (Err NoPoint))
           ≡ unless 11 a (cond b (reached_told at sum moves) (step_table (sides at travel) tells-next))
       by_tests true true = refl
       by_tests true false = step_told (sides at travel) next tells-next h
@@ -44,7 +44,7 @@ module _ (sides : Sides) (made : ℕ) (travel watch : TmeshDirection) where
   walk_told_lem start = by_test (is_made made start)
     where
       by_test : (a : Bool)
-          → walk_told (cond a (step_over (sides start travel) (λ n interval. onward (made - 1) sides made travel watch n interval 1)) (Refused NoPoint))
+          → walk_told (cond a (step_over (sides start travel) (λ n interval. onward (made - 1) sides made travel watch n interval 1)) (Err NoPoint))
           ≡ unless 11 a (step_table (sides start travel) (λ n interval. onward_table (made - 1) sides made travel watch n interval 1))
       by_test true = step_told (sides start travel) _ _ (λ n interval. onward_told (made - 1) n interval 1)
       by_test false = refl

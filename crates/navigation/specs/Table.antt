@@ -1,5 +1,5 @@
 -- The table of a walk: a step over an opening is 3, over a border 4; a number never made is 11; one move more than there are points 9.
-use Rattle.std.specs.Prelude.{ℕ, zero, suc, ◌+◌, ◌-◌, not, cond, Float}
+use Rattle.std.specs.Prelude.{ℕ, zero, suc, ◌+◌, ◌-◌, not, cond, Float, Err, Ok, Result}
 use Rattle.std.specs.Float.{binary64}
 use Rattle.std.specs.Float.Ieee.{add}
 use Rattle.control_point.specs.Point.{is_made, is_link, is_border, is_opening}
@@ -8,8 +8,8 @@ use Rattle.control_point.specs.Told.{Told, refused_by, unless, refusal_told}
 use Rattle.control_point.specs.declared.t_mesh_control_point.Side.{Side}
 use Rattle.control_point.specs.declared.t_mesh_direction.TmeshDirection.{TmeshDirection}
 use Rattle.navigation.specs.Walk.{reached_told}
+use Rattle.control_point.specs.declared.refusal.Refusal.{Refusal}
 use Rattle.navigation.specs.declared.walk.Walk.{Walk}
-use Rattle.navigation.specs.declared.walk.Walk.TheVariants.{Reached, Refused}
 
 -- a step over a side
 abbrev pub step_table : Side → (ℕ → Float → Told) → Told
@@ -32,6 +32,6 @@ walk_table sides made start travel watch =
     unless 11 (is_made made start) (step_table (sides start travel) (λ n interval. onward_table (made - 1) sides made travel watch n interval 1))
 
 -- in the table of a call that walks: a refused walk tells its number, a reached one goes on from its point with its sum
-abbrev pub walked_table : Walk → (ℕ → Float → Told) → Told
-walked_table (Reached n sum moves) next = next n sum
-walked_table (Refused refusal) next = refusal_told refusal
+abbrev pub walked_table : Result Walk Refusal → (ℕ → Float → Told) → Told
+walked_table (Ok walk) next = next walk.at walk.sum
+walked_table (Err refusal) next = refusal_told refusal

@@ -120,6 +120,18 @@ answer_by_lem : (sides : List PointSide) (side : PointSide) (opening : Bool) →
 answer_by_lem sides side true h = answer_longer sides side h
 answer_by_lem sides side false h = ap openings_answer (sym (append-nil sides))
 
+pub answer_count : (sides : List PointSide) → (openings_answer sides).count ≡ length sides
+unfolding openings_answer
+answer_count sides = refl
+
+-- no more are listed than there are places before
+pub room_left : (store : Store) (i : ℕ) (list : Openings) → i < 512 → list ≡ openings_answer (open_below store i) → list.count < 512
+room_left store i list h e = omega (arith, ap (λ (list : Openings). list.count) e, answer_count (open_below store i), below_few store i)
+
+-- behind the last place all are listed
+pub all_listed : (store : Store) (i : ℕ) (list : Openings) → i ≡ 512 → list ≡ openings_answer (open_below store i) → list ≡ openings_answer (openings_of store)
+all_listed store i list e so_far = so_far ∙ ap (λ (place : ℕ). openings_answer (open_below store place)) e ∙ ap openings_answer (below_all store)
+
 -- the answer after the side at a place
 pub answer_after : (store : Store) (i : ℕ) (list after : Openings) (opening : Bool) → i < 512 → list ≡ openings_answer (open_below store i) → let n = i / 4 in let k = i % 4 in
     opening ≡ (is_made store.made n && is_opening (side_of (store_point store n) (direction_numbered k)))
@@ -137,14 +149,13 @@ answer_after store i list after opening h e is so =
     ∙ answer_by_lem (open_below store i) side (is_open store side) (omega (arith, below_few store i))
     ∙ ap openings_answer (sym (below_next store i))
 
+-- what a loop over the places says of the list
+pub ruleset list_so_far = (below_none, room_left, all_listed)
+
 -- ---- reading the answer
 -- what is read past the end of a list of sides
 abbrev pub no_side : PointSide
 no_side = point_side 0 Up
-
-pub answer_count : (sides : List PointSide) → (openings_answer sides).count ≡ length sides
-unfolding openings_answer
-answer_count sides = refl
 
 -- an entry of a column
 column_at : (room : ℕ) (column : PointSide → ℕ) (sides : List PointSide) (i : ℕ) → column no_side ≡ 0 → i < length sides

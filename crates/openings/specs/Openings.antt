@@ -18,7 +18,7 @@ pub record PointSide : Type 0 where
 abbrev pub point_side : ℕ → TmeshDirection → PointSide
 point_side n d = record { point = n; direction = d }
 
--- the four sides of a point, in the order of the paper
+-- the four sides of a point, clockwise from up
 abbrev pub four_sides : ℕ → List PointSide
 four_sides n = point_side n Up ∷ (point_side n Right ∷ (point_side n Down ∷ (point_side n Left ∷ [])))
 

@@ -9,6 +9,7 @@ use control_point::t_mesh_control_point::{TmeshControlPoint, is_made, is_opening
 use control_point::t_mesh_direction::TmeshDirection;
 use store::store::Store;
 
+#[tactic(auto, using(crate::proofs::OpeningsLaws::answer_none))]
 fn no_openings() -> Openings
     ensures { result ≡ openings_answer [] }
 {
@@ -23,20 +24,17 @@ fn no_openings() -> Openings
 fn is_open(made: u8, n: u8, point: TmeshControlPoint, direction: u8) -> bool
     ensures { result ≡ (is_made made n && is_opening (side_of point (direction_numbered direction))) }
 {
-    if is_made(made, n) {
-        return is_opening(side_of(point, TmeshDirection::numbered(direction)));
-    }
-    false
+    is_made(made, n) && is_opening(side_of(point, TmeshDirection::numbered(direction)))
 }
 
 // The openings of the made points. A side's place is four times its point's number and its direction's.
+#[tactic(auto, using(crate::proofs::OpeningsLaws::list_so_far))]
 pub fn openings(store: Store) -> Openings
     ensures { result ≡ openings_answer (openings_of store) }
 {
     let made = store.made;
     let mut list = no_openings();
-    let mut place: u16 = 0;
-    while place < 512 {
+    for place in 0..512u16 {
         let n = (place / 4) as u8;
         let point = store.points[n as usize];
         let direction = (place % 4) as u8;
@@ -46,7 +44,6 @@ pub fn openings(store: Store) -> Openings
             list.directions[at] = direction;
             list.count += 1;
         }
-        place += 1;
     }
     list
 }

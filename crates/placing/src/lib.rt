@@ -6,10 +6,9 @@ ghost use Rattle.lent_points.specs.Lent.{lent_points, Room};
 ghost use Rattle.insertion.specs.Insert.{point_in_line};
 ghost use Rattle.insertion.specs.Lent.{points_placed};
 
-use control_point::sides::put_side;
 use control_point::t_mesh_control_point::{Side, TmeshControlPoint, loose_point, with_side};
 use control_point::t_mesh_direction::TmeshDirection;
-use lent_points::{link, put_lent_point};
+use lent_points::LentPoints;
 
 // A new point with borders of 0.0, its two sides in line opened.
 fn point_in_line(direction: TmeshDirection) -> TmeshControlPoint
@@ -21,10 +20,7 @@ fn point_in_line(direction: TmeshDirection) -> TmeshControlPoint
 
 // The link from con to the other point is cut, p is made, and both are joined to it, at the two parts of the interval.
 pub fn place(
-    kinds: &mut [u8; 512],
-    numbers: &mut [u8; 512],
-    intervals: &mut [f64; 512],
-    coordinates: &mut [f64; 256],
+    points: &mut LentPoints,
     con: u8,
     other: u8,
     p: u8,
@@ -32,46 +28,16 @@ pub fn place(
     interval: f64,
     ratio: f64,
 )
-    requires { ((con < p) × ((other < p) × (p < 128))) × Room kinds.old numbers.old intervals.old coordinates.old }
-    ensures { let before = lent_points kinds.old numbers.old intervals.old coordinates.old in
-        let after = lent_points kinds.new numbers.new intervals.new coordinates.new in
-        Room kinds.new numbers.new intervals.new coordinates.new × (after ≡ points_placed before con other p direction interval ratio) }
+    requires { ((con < p) × ((other < p) × (p < 128))) × Room points.old }
+    ensures { let before = lent_points points.old in
+        let after = lent_points points.new in
+        Room points.new × (after ≡ points_placed before con other p direction interval ratio) }
 {
-    put_side(kinds, numbers, intervals, con, direction, Side::Opening);
-    put_side(
-        kinds,
-        numbers,
-        intervals,
-        other,
-        direction.flip(),
-        Side::Opening,
-    );
-    put_lent_point(
-        kinds,
-        numbers,
-        intervals,
-        coordinates,
-        p,
-        point_in_line(direction),
-    );
-    link(
-        kinds,
-        numbers,
-        intervals,
-        coordinates,
-        con,
-        p,
-        direction,
-        interval * ratio,
-    );
-    link(
-        kinds,
-        numbers,
-        intervals,
-        coordinates,
-        p,
-        other,
-        direction,
-        interval * (1.0 - ratio),
-    );
+    points.sides.put_side(con, direction, Side::Opening);
+    points
+        .sides
+        .put_side(other, direction.flip(), Side::Opening);
+    points.put_lent_point(p, point_in_line(direction));
+    points.link(con, p, direction, interval * ratio);
+    points.link(p, other, direction, interval * (1.0 - ratio));
 }

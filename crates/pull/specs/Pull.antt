@@ -1,19 +1,18 @@
 -- Setting the pull of a point (`set_pull`), listed or not, so also of one that a torn insertion left. Turned away, in this order: 11 where no point of that number was made;
 -- 17 where the pull is negative, infinite or a NaN (−0.0 is not negative). Turned away, the map is as it was. Else that one pull is another and nothing else: the points, the
 -- positions, the other pulls, the listing, the kept knots and their index are as they were.
-use Rattle.std.specs.Prelude.{ℕ, Bool, false, cond, ◌&&◌, [], Float, set}
+use Rattle.std.specs.Prelude.{ℕ, Bool, false, cond, ◌&&◌, [], Float, set, Err, Ok, Result, ⊤}
 use Rattle.std.specs.Float.{inf}
 use Rattle.std.specs.Float.Ieee.{lt, le}
 use Rattle.float64.specs.Literals.{zero_literal}
 use Rattle.control_point.specs.Point.{is_made}
 use Rattle.control_point.specs.Told.{Told, tells, unless}
-use Rattle.control_point.specs.declared.refusal.Outcome.{Outcome}
-use Rattle.control_point.specs.declared.refusal.Outcome.TheVariants.{Done, Refused}
 use Rattle.control_point.specs.declared.refusal.Refusal.TheVariants.{NoPoint, Pull}
 use Rattle.t_mesh.specs.Tmesh.{place_under}
 use Rattle.t_mesh.specs.declared.t_mesh.Place.{Place}
 use Rattle.t_mesh.specs.declared.t_mesh.Tmesh.{Tmesh}
 use Rattle.pull.specs.declared.Pulled.{Pulled}
+use Rattle.control_point.specs.declared.refusal.Refusal.{Refusal}
 
 -- whether a number may be a pull: at least 0 and finite
 abbrev pub can_pull : Float → Bool
@@ -38,16 +37,16 @@ with_pull map n pull =
     }
 
 -- what comes of it, with so many points made
-abbrev pub pull_outcome : ℕ → ℕ → Float → Outcome
-pull_outcome made n pull = cond (is_made made n) (cond (can_pull pull) Done (Refused Pull)) (Refused NoPoint)
+abbrev pub pull_outcome : ℕ → ℕ → Float → Result ⊤ Refusal
+pull_outcome made n pull = cond (is_made made n) (cond (can_pull pull) (Ok tt) (Err Pull)) (Err NoPoint)
 
 -- the map after it
-abbrev pub after_pull : Outcome → Tmesh → ℕ → Float → Tmesh
-after_pull Done map n pull = with_pull map n pull
-after_pull (Refused refusal) map n pull = map
+abbrev pub after_pull : Result ⊤ Refusal → Tmesh → ℕ → Float → Tmesh
+after_pull (Ok tt) map n pull = with_pull map n pull
+after_pull (Err refusal) map n pull = map
 
 -- both
-abbrev pub pulled_by : Outcome → Tmesh → ℕ → Float → Pulled
+abbrev pub pulled_by : Result ⊤ Refusal → Tmesh → ℕ → Float → Pulled
 pulled_by outcome map n pull = record { outcome = outcome; map = after_pull outcome map n pull }
 
 unfoldable pub set_pull : Tmesh → ℕ → Float → Pulled

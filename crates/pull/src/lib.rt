@@ -5,14 +5,14 @@ ghost use Rattle.std.specs.Prelude.{◌≡◌};
 ghost use Rattle.control_point.specs.Told.{outcome_told};
 ghost use Rattle.pull.specs.Pull.{can_pull, repulled, pull_outcome, set_pull, pull_table};
 
-use control_point::refusal::{Outcome, Refusal};
+use control_point::refusal::Refusal;
 use control_point::t_mesh_control_point::is_made;
 use t_mesh::t_mesh::{Place, Tmesh};
 
 // What came of setting a pull, and the map after it.
 #[derive(Clone, Copy)]
 pub struct Pulled {
-    pub outcome: Outcome,
+    pub outcome: Result<(), Refusal>,
     pub map: Tmesh,
 }
 
@@ -32,16 +32,16 @@ fn repulled(place: Place, pull: f64) -> Place
 }
 
 // What comes of setting a point's pull, with so many points made.
-fn pull_outcome(made: u8, n: u8, pull: f64) -> Outcome
+fn pull_outcome(made: u8, n: u8, pull: f64) -> Result<(), Refusal>
     ensures { result ≡ pull_outcome made n pull }
 {
     if !is_made(made, n) {
-        return Outcome::Refused(Refusal::NoPoint);
+        return Err(Refusal::NoPoint);
     }
     if !can_pull(pull) {
-        return Outcome::Refused(Refusal::Pull);
+        return Err(Refusal::Pull);
     }
-    Outcome::Done
+    Ok(())
 }
 
 // Sets the pull of a made point, listed or not, and nothing else. Refused, 11 and then 17, the map is as it was.
@@ -51,7 +51,7 @@ pub fn set_pull(mut map: Tmesh, n: u8, pull: f64) -> Pulled
 {
     let mut mesh = map.mesh;
     let outcome = pull_outcome(mesh.made, n, pull);
-    if let Outcome::Done = outcome {
+    if let Ok(()) = outcome {
         let place = repulled(mesh.places[n as usize], pull);
         mesh.places[n as usize] = place;
         map.mesh = mesh;

@@ -1,20 +1,19 @@
 -- Laws of knots: they go by the entries of four rays, as code holds them, and so by the sides of made points alone.
-use Rattle.std.specs.Prelude.{ℕ, ◌≡◌, refl, Float}
+use Rattle.std.specs.Prelude.{ℕ, ◌≡◌, refl, Float, Err, Ok, Result, ⊤}
 use Rattle.control_point.specs.Sides.{Sides}
 use Rattle.control_point.proofs.SidesLaws.{Agree}
-use Rattle.control_point.specs.declared.refusal.Outcome.{Outcome}
-use Rattle.control_point.specs.declared.refusal.Outcome.TheVariants.{Done, Refused}
 use Rattle.control_point.specs.declared.t_mesh_direction.TmeshDirection.TheVariants.{Up, Right, Down, Left}
 use Rattle.ray.specs.Ray.{Ray, entries, refused, ray_of, cast_of}
 use Rattle.ray.proofs.RayLaws.{ray_agrees}
 use Rattle.ray.specs.Knots.{no_knots, after_ray, knots_about, knots_at, held, two_entries, both_of, in_turn}
 use Rattle.ray.specs.declared.knots.KnotsAnswer.{KnotsAnswer}
 use Rattle.ray.specs.declared.knots.TwoEntries.{TwoEntries}
+use Rattle.control_point.specs.declared.refusal.Refusal.{Refusal}
 
 -- the answer, where the rays are done
-abbrev pub where_done : Outcome → KnotsAnswer → KnotsAnswer
-where_done Done answer = answer
-where_done (Refused refusal) answer = no_knots (Refused refusal)
+abbrev pub where_done : Result ⊤ Refusal → KnotsAnswer → KnotsAnswer
+where_done (Ok tt) answer = answer
+where_done (Err refusal) answer = no_knots (Err refusal)
 
 -- a point's knots by the entries of its four rays
 abbrev knots_by : Float → Float → TwoEntries → TwoEntries → TwoEntries → TwoEntries → KnotsAnswer

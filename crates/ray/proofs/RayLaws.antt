@@ -1,6 +1,6 @@
 -- Laws of rays: their next entry, that they read the sides of made points alone, and the entries that stand in a buffer in front of those to come.
 use Prim.Native.Nat.{ℕ, zero, suc, ◌+◌, ◌<◌}
-use Rattle.std.specs.Prelude.{◌≡◌, true, false, List, [], ◌++◌, Float, length, take, set, replicate}
+use Rattle.std.specs.Prelude.{◌≡◌, true, false, List, [], ◌++◌, Float, length, take, set, replicate, Err, Ok, Result}
 use Rattle.std.proofs.Math.Path.{refl, ap}
 use Rattle.std.proofs.Common.{sym, add-one, take-suc-set}
 use Rattle.std.proofs.Math.Bool.{cond}
@@ -8,16 +8,15 @@ use Rattle.std.proofs.Math.Seq.{append_snoc}
 use Rattle.control_point.specs.Point.{is_made}
 use Rattle.control_point.specs.Sides.{Sides}
 use Rattle.control_point.proofs.SidesLaws.{Agree}
-use Rattle.control_point.specs.declared.refusal.Outcome.TheVariants.{Done, Refused}
 use Rattle.control_point.specs.declared.refusal.Refusal.{Refusal}
 use Rattle.control_point.specs.declared.refusal.Refusal.TheVariants.{NoPoint}
 use Rattle.control_point.specs.declared.t_mesh_direction.TmeshDirection.{TmeshDirection}
 use Rattle.float64.specs.Literals.{zero_literal}
 use Rattle.ray_entry.specs.Entry.{on_ray, entry_of}
 use Rattle.ray_entry.proofs.EntryLaws.{FrontMade, entry_agrees}
-use Rattle.ray_entry.specs.declared.entry.Entry.{Entry}
 use Rattle.ray.specs.Ray.{Ray, entries, refused, before, after_entry, ray_from, ray_of, cast_of}
 use Rattle.ray_entry.specs.declared.entry.Front.{Front}
+use Rattle.ray_entry.specs.declared.entry.Entry.{Entry}
 
 module _ (e : Float) (sides : Sides) (made : ℕ) (d : TmeshDirection) where
   pub ray_end : (n : ℕ) (front : Front) → n ≡ 0 → ray_from e sides made d n front ≡ entries []
@@ -44,8 +43,8 @@ module _ (e : Float) (made : ℕ) (sides others : Sides) (agree : Agree made sid
   from_agrees zero front m = refl
   from_agrees (suc left) front m =
       entry_agrees e made sides others agree d
-      (λ (entry : Entry). after_entry entry (λ next. ray_from e sides made d left next))
-      (λ (entry : Entry). after_entry entry (λ next. ray_from e others made d left next))
+      (λ (entry : Result Entry Refusal). after_entry entry (λ next. ray_from e sides made d left next))
+      (λ (entry : Result Entry Refusal). after_entry entry (λ next. ray_from e others made d left next))
       (λ value next k. ap (before value) (from_agrees left next k)) (λ refusal. refl) front m
 
   pub ray_agrees : (start n : ℕ) → ray_of e sides made start d n ≡ ray_of e others made start d n
@@ -54,10 +53,10 @@ module _ (e : Float) (made : ℕ) (sides others : Sides) (agree : Agree made sid
 
 -- what a cast is, by its ray
 module _ (ray : Ray) (n : ℕ) (buffer : List Float) where
-  pub cast_refused : (refusal : Refusal) → ray ≡ refused refusal → buffer ≡ replicate n zero_literal → (Refused refusal, buffer) ≡ cast_of ray n
+  pub cast_refused : (refusal : Refusal) → ray ≡ refused refusal → buffer ≡ replicate n zero_literal → (Err refusal, buffer) ≡ cast_of ray n
   cast_refused refusal h k = rw (h, k)
 
-  pub cast_done : ray ≡ entries buffer → (Done, buffer) ≡ cast_of ray n
+  pub cast_done : ray ≡ entries buffer → ((Ok tt), buffer) ≡ cast_of ray n
   cast_done h = rw h
 
 -- entries in front of a ray's

@@ -1,6 +1,6 @@
 -- A ray and a point's knots tell what their tables say.
 use Prim.Native.Nat.{ℕ, zero, suc}
-use Rattle.std.specs.Prelude.{◌≡◌, refl, Bool, true, false, cond, Float, length}
+use Rattle.std.specs.Prelude.{◌≡◌, refl, Bool, true, false, cond, Float, length, Err, Ok, Result}
 use Rattle.std.proofs.Common.{sym, ◌∙◌}
 use Rattle.std.proofs.Math.Path.{ap}
 use mathlib.Core.List.{List, [], ◌∷◌, ◌++◌, append-nil}
@@ -8,7 +8,6 @@ use Rattle.std.proofs.Math.Seq.{append_snoc}
 use Rattle.control_point.specs.Point.{is_made}
 use Rattle.control_point.specs.Sides.{Sides}
 use Rattle.control_point.specs.Told.{Told, tells, unless, refused_or}
-use Rattle.control_point.specs.declared.refusal.Outcome.TheVariants.{Refused}
 use Rattle.control_point.specs.declared.refusal.Refusal.TheVariants.{NoPoint}
 use Rattle.control_point.specs.declared.t_mesh_direction.TmeshDirection.{TmeshDirection}
 use Rattle.control_point.specs.declared.t_mesh_direction.TmeshDirection.TheVariants.{Up, Right, Down, Left}
@@ -16,13 +15,13 @@ use Rattle.store.specs.Store.{store_sides, store_point}
 use Rattle.store.specs.declared.store.Store.{Store}
 use Rattle.ray_entry.specs.Entry.{on_ray, entry_of}
 use Rattle.ray_entry.proofs.TableLaws.{entry_told, entry_told_lem}
-use Rattle.ray_entry.specs.declared.entry.Entry.{Entry}
-use Rattle.ray_entry.specs.declared.entry.Entry.TheVariants.{Is, Refused as NoEntry}
 use Rattle.ray_entry.specs.declared.entry.Front.{Front}
 use Rattle.ray.specs.Knots.{five_knots, no_knots, after_ray, knots_about, knots_at, point_knot_vectors, knots_told}
 use Rattle.ray.specs.Ray.{Ray, entries, refused, before, after_entry, ray_from, ray_of, cast_of, cast_ray, floats, cast_told}
 use Rattle.ray.proofs.RayLaws.{behind, behind_none}
 use Rattle.ray.specs.Table.{ray_table, cast_table, knots_table}
+use Rattle.control_point.specs.declared.refusal.Refusal.{Refusal}
+use Rattle.ray_entry.specs.declared.entry.Entry.{Entry}
 
 -- ---- a ray, into a buffer of n entries
 module _ (e : Float) (sides : Sides) (made : ℕ) (d : TmeshDirection) (n : ℕ) where
@@ -35,9 +34,9 @@ module _ (e : Float) (sides : Sides) (made : ℕ) (d : TmeshDirection) (n : ℕ)
 
   entered_told : (standing : List Float) (rest : Front → Ray) (table : Float → Front → Told)
       → ((value : Float) (front : Front) → told (behind (standing ++ (value ∷ [])) (rest front)) ≡ table value front)
-      → (entry : Entry) → told (behind standing (after_entry entry rest)) ≡ entry_told table entry
-  entered_told standing rest table h (Is value front) = ap told (behind_next standing value (rest front)) ∙ h value front
-  entered_told standing rest table h (NoEntry refusal) = refl
+      → (entry : Result Entry Refusal) → told (behind standing (after_entry entry rest)) ≡ entry_told table entry
+  entered_told standing rest table h (Ok entry) = ap told (behind_next standing entry.value (rest entry.front)) ∙ h entry.value entry.front
+  entered_told standing rest table h (Err refusal) = refl
 
   ray_told : (left : ℕ) (front : Front) (standing : List Float) → told (behind standing (ray_from e sides made d left front)) ≡ ray_table e sides made d left front standing
   unfolding ray_from ray_table
@@ -77,7 +76,7 @@ knots_told_lem e store n = by_rays (is_made store.made n) (cast Up) (cast Right)
     t = (store_point store n).t
 
     by_rays : (made : Bool) (up right down left : Ray)
-        → knots_told (cond made (after_ray up (λ a. after_ray right (λ b. after_ray down (λ c. after_ray left (λ d. knots_about s t a b c d))))) (no_knots (Refused NoPoint)))
+        → knots_told (cond made (after_ray up (λ a. after_ray right (λ b. after_ray down (λ c. after_ray left (λ d. knots_about s t a b c d))))) (no_knots (Err NoPoint)))
         ≡ unless 11 made
         (refused_or (cast_of up 2).0
         (refused_or (cast_of right 2).0

@@ -1,10 +1,9 @@
 -- The tables of rays and knots. A number never made is 11, before all else. A ray is then told entry by entry: what refuses an entry is its number,
 -- and where none is refused they are all told. A point's knots are refused as the first of its four rays that is, in the order of the directions.
-use Rattle.std.specs.Prelude.{ℕ, zero, suc, false, List, [], ◌∷◌, ◌++◌, Float}
+use Rattle.std.specs.Prelude.{ℕ, zero, suc, false, List, [], ◌∷◌, ◌++◌, Float, Result, ⊤}
 use Rattle.control_point.specs.Point.{is_made}
 use Rattle.control_point.specs.Sides.{Sides}
 use Rattle.control_point.specs.Told.{Told, tells, unless, refused_or}
-use Rattle.control_point.specs.declared.refusal.Outcome.{Outcome}
 use Rattle.control_point.specs.declared.t_mesh_direction.TmeshDirection.{TmeshDirection}
 use Rattle.control_point.specs.declared.t_mesh_direction.TmeshDirection.TheVariants.{Up, Right, Down, Left}
 use Rattle.store.specs.Store.{store_sides, store_point}
@@ -14,6 +13,7 @@ use Rattle.ray_entry.specs.Table.{entry_table}
 use Rattle.ray_entry.specs.declared.entry.Front.{Front}
 use Rattle.ray.specs.Knots.{five_knots}
 use Rattle.ray.specs.Ray.{ray_of, cast_of, floats}
+use Rattle.control_point.specs.declared.refusal.Refusal.{Refusal}
 
 -- ---- `cast_ray`
 -- so many entries from a front, behind those that stand
@@ -28,7 +28,7 @@ cast_table e store start d n = unless 11 (is_made store.made start) (ray_table e
 
 -- ---- `point_knot_vectors`
 -- what comes of a point's ray of two entries, and these
-abbrev pub two_cast : Float → Store → ℕ → TmeshDirection → Outcome × List Float
+abbrev pub two_cast : Float → Store → ℕ → TmeshDirection → Result ⊤ Refusal × List Float
 two_cast e store n d = cast_of (ray_of e (store_sides store) store.made n d 2) 2
 
 abbrev pub knots_table : Float → Store → ℕ → Told

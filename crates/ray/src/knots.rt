@@ -5,8 +5,8 @@ ghost use Rattle.ray.specs.Knots.{two_entries, both_of, five_knots, knots_about,
 ghost use Rattle.ray.specs.Table.{knots_table};
 
 use crate::ray::cast;
-use control_point::refusal::{Outcome, Refusal};
-use control_point::sides::fill;
+use control_point::refusal::Refusal;
+use control_point::sides::LentSides;
 use control_point::t_mesh_control_point::is_made;
 use control_point::t_mesh_direction::TmeshDirection;
 use store::store::Store;
@@ -21,40 +21,29 @@ pub struct PointKnots {
 // Refused, the knots are all 0.0.
 #[derive(Clone, Copy)]
 pub struct KnotsAnswer {
-    pub outcome: Outcome,
+    pub outcome: Result<(), Refusal>,
     pub knots: PointKnots,
 }
 
 // A ray of two entries.
 #[derive(Clone, Copy)]
 struct TwoEntries {
-    outcome: Outcome,
+    outcome: Result<(), Refusal>,
     first: f64,
     second: f64,
 }
 
-fn two_entries<'a>(
+fn two_entries(
     closeness: f64,
-    kinds: &'a [u8; 512],
-    numbers: &'a [u8; 512],
-    intervals: &'a [f64; 512],
+    sides: &LentSides,
     made: u8,
     n: u8,
     direction: TmeshDirection,
 ) -> TwoEntries
-    ensures { result ≡ two_entries closeness (lent_sides kinds.now numbers.now intervals.now) made n direction }
+    ensures { result ≡ two_entries closeness (lent_sides sides.now) made n direction }
 {
     let mut buffer = [0.0; 2];
-    let outcome = cast(
-        closeness,
-        kinds,
-        numbers,
-        intervals,
-        made,
-        n,
-        direction,
-        &mut buffer,
-    );
+    let outcome = cast(closeness, sides, made, n, direction, &mut buffer);
     TwoEntries {
         outcome,
         first: buffer[0],
@@ -91,7 +80,7 @@ fn knots_about(
     let across = five_knots(s, left, right);
     let upwards = five_knots(t, down, up);
     KnotsAnswer {
-        outcome: Outcome::Done,
+        outcome: Ok(()),
         knots: PointKnots {
             s: across,
             t: upwards,
@@ -100,7 +89,7 @@ fn knots_about(
 }
 
 // No knots, and why.
-fn no_knots(outcome: Outcome) -> KnotsAnswer
+fn no_knots(outcome: Result<(), Refusal>) -> KnotsAnswer
     ensures { result ≡ no_knots outcome }
 {
     KnotsAnswer {
@@ -113,17 +102,22 @@ fn no_knots(outcome: Outcome) -> KnotsAnswer
 }
 
 // The first refusal of two outcomes.
-fn in_turn(first: Outcome, second: Outcome) -> Outcome
+fn in_turn(first: Result<(), Refusal>, second: Result<(), Refusal>) -> Result<(), Refusal>
     ensures { result ≡ in_turn first second }
 {
     match first {
-        Outcome::Done => second,
-        Outcome::Refused(refusal) => Outcome::Refused(refusal),
+        Ok(()) => second,
+        Err(refusal) => Err(refusal),
     }
 }
 
 // The first refusal of the four rays.
-fn outcome_of(up: TwoEntries, right: TwoEntries, down: TwoEntries, left: TwoEntries) -> Outcome
+fn outcome_of(
+    up: TwoEntries,
+    right: TwoEntries,
+    down: TwoEntries,
+    left: TwoEntries,
+) -> Result<(), Refusal>
     ensures { result ≡ in_turn up.outcome (in_turn right.outcome (in_turn down.outcome left.outcome)) }
 {
     let first = up.outcome;
@@ -134,28 +128,19 @@ fn outcome_of(up: TwoEntries, right: TwoEntries, down: TwoEntries, left: TwoEntr
 }
 
 // Of the point of a number and coordinates: four rays of two entries, in the order of the directions.
-pub fn knots_at<'a>(
-    closeness: f64,
-    kinds: &'a [u8; 512],
-    numbers: &'a [u8; 512],
-    intervals: &'a [f64; 512],
-    made: u8,
-    n: u8,
-    s: f64,
-    t: f64,
-) -> KnotsAnswer
-    ensures { result ≡ knots_at closeness (lent_sides kinds.now numbers.now intervals.now) made n s t }
+pub fn knots_at(closeness: f64, sides: &LentSides, made: u8, n: u8, s: f64, t: f64) -> KnotsAnswer
+    ensures { result ≡ knots_at closeness (lent_sides sides.now) made n s t }
 {
     let direction = TmeshDirection::Up;
-    let up = two_entries(closeness, kinds, numbers, intervals, made, n, direction);
+    let up = two_entries(closeness, sides, made, n, direction);
     let direction = TmeshDirection::Right;
-    let right = two_entries(closeness, kinds, numbers, intervals, made, n, direction);
+    let right = two_entries(closeness, sides, made, n, direction);
     let direction = TmeshDirection::Down;
-    let down = two_entries(closeness, kinds, numbers, intervals, made, n, direction);
+    let down = two_entries(closeness, sides, made, n, direction);
     let direction = TmeshDirection::Left;
-    let left = two_entries(closeness, kinds, numbers, intervals, made, n, direction);
+    let left = two_entries(closeness, sides, made, n, direction);
     let outcome = outcome_of(up, right, down, left);
-    let Outcome::Done = outcome else {
+    let Ok(()) = outcome else {
         return no_knots(outcome);
     };
     knots_about(s, t, up, right, down, left)
@@ -168,15 +153,10 @@ pub fn point_knot_vectors(closeness: f64, store: Store, n: u8) -> KnotsAnswer
 {
     let made = store.made;
     if !is_made(made, n) {
-        return no_knots(Outcome::Refused(Refusal::NoPoint));
+        return no_knots(Err(Refusal::NoPoint));
     }
     let points = store.points;
     let point = points[n as usize];
-    let mut kinds = [0u8; 512];
-    let mut numbers = [0u8; 512];
-    let mut intervals = [0.0; 512];
-    fill(&mut kinds, &mut numbers, &mut intervals, points);
-    knots_at(
-        closeness, &kinds, &numbers, &intervals, made, n, point.s, point.t,
-    )
+    let sides = LentSides::of_points(points);
+    knots_at(closeness, &sides, made, n, point.s, point.t)
 }

@@ -4,54 +4,44 @@ ghost use Rattle.control_point.specs.Sides.{lent_sides};
 ghost use Rattle.ray_approach.specs.Approach.{approach_of};
 
 use control_point::refusal::Refusal;
+use control_point::sides::LentSides;
 use control_point::small::so_small;
 use control_point::t_mesh_direction::TmeshDirection;
-use navigation::walk::{Walk, navigate};
+use navigation::walk::navigate;
 
-#[derive(Clone, Copy)]
+#[derive(Clone, Copy, Debug)]
 pub enum Approach {
     // The next point lies on the ray: the point before it.
     Aligned(u8),
     // The next point lies beyond the ray: the point before it, and its distance.
     Crossed(u8, f64),
-    Refused(Refusal),
 }
 
 // Towards the ray, from a point at a distance.
-pub fn approach_ray<'a>(
+pub fn approach_ray(
     closeness: f64,
-    kinds: &'a [u8; 512],
-    numbers: &'a [u8; 512],
-    intervals: &'a [f64; 512],
+    sides: &LentSides,
     made: u8,
     direction: TmeshDirection,
     start: u8,
     distance: f64,
-) -> Approach
-    ensures { result ≡ approach_of closeness (lent_sides kinds.now numbers.now intervals.now) made direction start distance }
+) -> Result<Approach, Refusal>
+    ensures { result ≡ approach_of closeness (lent_sides sides.now) made direction start distance }
 {
     let clockwise = direction.clockwise();
     let mut at = start;
     let mut left = distance;
-    let mut rounds: u8 = 0;
-    while rounds < made {
-        match navigate(kinds, numbers, intervals, made, at, clockwise, direction) {
-            Walk::Refused(refusal) => {
-                return Approach::Refused(refusal);
-            }
-            Walk::Reached(next, sum, _) => {
-                let difference = left - sum;
-                if so_small(closeness, difference) {
-                    return Approach::Aligned(at);
-                }
-                if difference < 0.0 {
-                    return Approach::Crossed(at, left);
-                }
-                at = next;
-                left = difference;
-            }
+    for rounds in 0..made {
+        let walk = navigate(sides, made, at, clockwise, direction)?;
+        let difference = left - walk.sum;
+        if so_small(closeness, difference) {
+            return Ok(Approach::Aligned(at));
         }
-        rounds += 1;
+        if difference < 0.0 {
+            return Ok(Approach::Crossed(at, left));
+        }
+        at = walk.at;
+        left = difference;
     }
-    Approach::Refused(Refusal::Ring)
+    Err(Refusal::Ring)
 }

@@ -1,5 +1,5 @@
 -- An entry tells what its table says.
-use Rattle.std.specs.Prelude.{ℕ, ◌≡◌, refl, Bool, true, false, cond, Float}
+use Rattle.std.specs.Prelude.{Option, Some, None, ℕ, ◌≡◌, refl, Bool, true, false, cond, Float, Err, Ok, Result}
 use Rattle.std.proofs.Common.{◌∙◌}
 use Rattle.std.specs.Float.{binary64}
 use Rattle.std.specs.Float.Ieee.{add}
@@ -8,41 +8,39 @@ use Rattle.control_point.specs.Point.{is_made, is_link, is_border, is_opening}
 use Rattle.control_point.specs.Sides.{Sides, linked_of, interval_of}
 use Rattle.control_point.specs.Told.{Told, unless, refusal_told}
 use Rattle.control_point.specs.declared.refusal.Refusal.TheVariants.{NoPoint}
-use Rattle.control_point.specs.declared.sides.SideAnswer.TheVariants.{Is as IsSide, Refused as NoSide}
 use Rattle.control_point.specs.declared.t_mesh_control_point.Side.{Side}
 use Rattle.control_point.specs.declared.t_mesh_control_point.Side.TheVariants.{Link, Border, Opening}
 use Rattle.control_point.specs.declared.t_mesh_direction.TmeshDirection.{TmeshDirection}
 use Rattle.navigation.specs.Table.{walked_table}
-use Rattle.navigation.specs.declared.walk.Walk.{Walk}
-use Rattle.navigation.specs.declared.walk.Walk.TheVariants.{Reached, Refused as NoWalk}
 use Rattle.ray_approach.specs.Approach.{approach_of}
 use Rattle.ray_approach.specs.Table.{approach_table}
 use Rattle.ray_approach.proofs.TableLaws.{approach_told, approach_told_lem}
-use Rattle.ray_approach.specs.declared.approach.Approach.{Approach}
-use Rattle.ray_approach.specs.declared.approach.Approach.TheVariants.{Aligned, Crossed, Refused as NoApproach}
-use Rattle.ray_entry.specs.Entry.{on_ray, after_walk, corner_walk, face_walk, side_entry, point_entry, over_face, around_face, after_approach, march_entry, entry_of}
-use Rattle.ray_entry.specs.Table.{opening_table, point_table, over_table, around_table, march_table, entry_table}
-use Rattle.ray_entry.specs.declared.entry.Entry.{Entry}
-use Rattle.ray_entry.specs.declared.entry.Entry.TheVariants.{Is, Refused}
+use Rattle.ray_approach.specs.declared.approach.Approach.TheVariants.{Aligned, Crossed}
+use Rattle.ray_entry.specs.Entry.{on_ray, after_walk, corner_walk, face_walk, side_entry, point_entry, over_face, around_face, after_approach, march_entry, entry_from, entry_of}
+use Rattle.ray_entry.specs.Table.{from_table, opening_table, point_table, over_table, around_table, march_table, entry_table}
 use Rattle.ray_entry.specs.declared.entry.Front.{Front}
+use Rattle.control_point.specs.declared.refusal.Refusal.{Refusal}
+use Rattle.navigation.specs.declared.walk.Walk.{Walk}
+use Rattle.ray_approach.specs.declared.approach.Approach.{Approach}
+use Rattle.ray_entry.specs.declared.entry.Entry.{Entry}
 
 -- what is told after an entry: its refusal's number, or what is told of it and its front
-abbrev pub entry_told : (Float → Front → Told) → Entry → Told
-entry_told next (Is value front) = next value front
-entry_told next (Refused refusal) = refusal_told refusal
+abbrev pub entry_told : (Float → Front → Told) → Result Entry Refusal → Told
+entry_told next (Ok entry) = next entry.value entry.front
+entry_told next (Err refusal) = refusal_told refusal
 
 module _ (told : Float → Front → Told) where
-  after_told : (next : ℕ → Float → Entry) (table : ℕ → Float → Told) → ((n : ℕ) (sum : Float) → entry_told told (next n sum) ≡ table n sum)
-      → (walk : Walk) → entry_told told (after_walk walk next) ≡ walked_table walk table
-  after_told next table h (Reached n sum moves) = h n sum
-  after_told next table h (NoWalk refusal) = refl
+  after_told : (next : ℕ → Float → Result Entry Refusal) (table : ℕ → Float → Told) → ((n : ℕ) (sum : Float) → entry_told told (next n sum) ≡ table n sum)
+      → (walk : Result Walk Refusal) → entry_told told (after_walk walk next) ≡ walked_table walk table
+  after_told next table h (Ok walk) = h walk.at walk.sum
+  after_told next table h (Err refusal) = refl
 
   module _ (sides : Sides) (made : ℕ) (d : TmeshDirection) where
     point_told_lem : (at : ℕ) (met : Bool) → entry_told told (point_entry sides made d at met) ≡ point_table sides made d told at met
     point_told_lem at met = by_side (is_made made at) (sides at d)
       where
         by_side : (b : Bool) (side : Side)
-            → entry_told told (side_entry sides made d (cond b (IsSide side) (NoSide NoPoint)) at met)
+            → entry_told told (side_entry sides made d (cond b (Ok side) (Err NoPoint)) at met)
             ≡ unless 11 b
             (cond (is_link side)
             (told (add binary64 zero_literal (interval_of side)) (on_ray (linked_of side) met))
@@ -66,11 +64,11 @@ module _ (told : Float → Front → Told) where
         by_test true = after_told _ _ (λ corner sum. over_told corner met (add binary64 r sum)) (corner_walk sides made d at)
         by_test false = over_told at met r
 
-    approached_told : (met : Bool) (approach : Approach)
+    approached_told : (met : Bool) (approach : Result Approach Refusal)
         → entry_told told (after_approach sides made d approach met) ≡ approach_told (λ last. point_table sides made d told last met) (around_table sides made d told met) approach
-    approached_told met (Aligned at) = point_told_lem at met
-    approached_told met (Crossed at r) = around_told at met r
-    approached_told met (NoApproach refusal) = refl
+    approached_told met (Ok (Aligned at)) = point_told_lem at met
+    approached_told met (Ok (Crossed at r)) = around_told at met r
+    approached_told met (Err refusal) = refl
 
     module _ (e : Float) where
       march_told : (at : ℕ) (met : Bool) (r : Float) → entry_told told (march_entry e sides made d at met r) ≡ march_table e sides made d told at met r
@@ -83,10 +81,9 @@ module _ (told : Float → Front → Told) where
           by_test false = approached_told met (approach_of e sides made d at r) ∙ approach_told_lem e sides made d _ _ at r
 
       pub entry_told_lem : (front : Front) → entry_told told (entry_of e sides made d front) ≡ entry_table e sides made d told front
-      entry_told_lem front = by_test front.marching
+      entry_told_lem front = by_march front.march
         where
-          by_test : (b : Bool)
-              → entry_told told (cond b (march_entry e sides made d front.at front.bordered front.distance) (point_entry sides made d front.at front.bordered))
-              ≡ cond b (march_table e sides made d told front.at front.bordered front.distance) (point_table sides made d told front.at front.bordered)
-          by_test true = march_told front.at front.bordered front.distance
-          by_test false = point_told_lem front.at front.bordered
+          by_march : (march : Option Float)
+              → entry_told told (entry_from e sides made d front.at front.bordered march) ≡ from_table e sides made d told front.at front.bordered march
+          by_march (Some r) = march_told front.at front.bordered r
+          by_march None = point_told_lem front.at front.bordered

@@ -1,7 +1,7 @@
 -- The table of a ray's entry, from where the ray stands: a number never made 11; at an opening the refusal of its two walks; in a march the
 -- approach's refusal, and that of the walks over the face. An entry that is not refused is told by the ray, so that what is then told, of the entry and of the front
 -- after it, is given. d is the direction of the ray, e the closeness.
-use Rattle.std.specs.Prelude.{ℕ, Bool, true, cond, Float}
+use Rattle.std.specs.Prelude.{Option, Some, None, ℕ, Bool, true, cond, Float}
 use Rattle.std.specs.Float.{binary64}
 use Rattle.std.specs.Float.Ieee.{add}
 use Rattle.float64.specs.Literals.{zero_literal}
@@ -51,8 +51,9 @@ module _ (e : Float) (sides : Sides) (made : ℕ) (d : TmeshDirection) (next : F
       (approach_table e sides made d (λ last. point_table sides made d next last met) (around_table sides made d next met) at r)
 
   -- from where the ray stands
+  abbrev pub from_table : ℕ → Bool → Option Float → Told
+  from_table at met (Some r) = march_table at met r
+  from_table at met None = point_table sides made d next at met
+
   abbrev pub entry_table : Front → Told
-  entry_table front =
-      cond front.marching
-      (march_table front.at front.bordered front.distance)
-      (point_table sides made d next front.at front.bordered)
+  entry_table front = from_table front.at front.bordered front.march

@@ -1,30 +1,36 @@
 // One entry of a ray, and where the ray then stands.
 ghost use Rattle.std.specs.Prelude.{◌≡◌};
 ghost use Rattle.control_point.specs.Sides.{lent_sides};
-ghost use Rattle.ray_entry.specs.Entry.{on_ray, in_march, corner_walk, face_walk, opening_entry, point_entry, over_face, around_face, march_entry, entry_of};
+ghost use Rattle.ray_entry.specs.Entry.{entry_with, on_ray, in_march, corner_walk, face_walk, opening_entry, point_entry, over_face, around_face, march_entry, entry_of};
 
 use control_point::refusal::Refusal;
-use control_point::sides::{SideAnswer, made_side_at, side_at};
+use control_point::sides::LentSides;
 use control_point::t_mesh_control_point::{Side, is_border, is_opening};
 use control_point::t_mesh_direction::TmeshDirection;
 use navigation::walk::{Walk, navigate};
 use ray_approach::approach::{Approach, approach_ray};
 
 // Where a ray stands between two entries.
-#[derive(Clone, Copy)]
+#[derive(Clone, Copy, Debug)]
 pub struct Front {
     pub at: u8,
     // The call's first border has been met.
     pub bordered: bool,
-    // It marches along faces that the ray crosses, its point at a distance from the ray.
-    pub marching: bool,
-    pub distance: f64,
+    // Where it marches along faces that the ray crosses: the distance of its point from the ray.
+    pub march: Option<f64>,
 }
 
-#[derive(Clone, Copy)]
-pub enum Entry {
-    Is(f64, Front),
-    Refused(Refusal),
+// An entry: its value, and where the ray then stands.
+#[derive(Clone, Copy, Debug)]
+pub struct Entry {
+    pub value: f64,
+    pub front: Front,
+}
+
+fn entry_with(value: f64, front: Front) -> Entry
+    ensures { result ≡ entry_with value front }
+{
+    Entry { value, front }
 }
 
 // At a point that the ray meets.
@@ -34,8 +40,7 @@ pub fn on_ray(at: u8, bordered: bool) -> Front
     Front {
         at,
         bordered,
-        marching: false,
-        distance: 0.0,
+        march: None,
     }
 }
 
@@ -46,208 +51,150 @@ fn in_march(at: u8, bordered: bool, distance: f64) -> Front
     Front {
         at,
         bordered,
-        marching: true,
-        distance,
+        march: Some(distance),
     }
 }
 
 // To the corner of the face that an opening looks into.
-fn walk_to_corner<'a>(
-    kinds: &'a [u8; 512],
-    numbers: &'a [u8; 512],
-    intervals: &'a [f64; 512],
+fn walk_to_corner(
+    sides: &LentSides,
     made: u8,
     direction: TmeshDirection,
     at: u8,
-) -> Walk
-    ensures { result ≡ corner_walk (lent_sides kinds.now numbers.now intervals.now) made direction at }
+) -> Result<Walk, Refusal>
+    ensures { result ≡ corner_walk (lent_sides sides.now) made direction at }
 {
-    navigate(
-        kinds,
-        numbers,
-        intervals,
-        made,
-        at,
-        direction.anti_clockwise(),
-        direction,
-    )
+    navigate(sides, made, at, direction.anti_clockwise(), direction)
 }
 
 // Along a face, from one corner to the next.
-fn walk_over_face<'a>(
-    kinds: &'a [u8; 512],
-    numbers: &'a [u8; 512],
-    intervals: &'a [f64; 512],
+fn walk_over_face(
+    sides: &LentSides,
     made: u8,
     direction: TmeshDirection,
     at: u8,
-) -> Walk
-    ensures { result ≡ face_walk (lent_sides kinds.now numbers.now intervals.now) made direction at }
+) -> Result<Walk, Refusal>
+    ensures { result ≡ face_walk (lent_sides sides.now) made direction at }
 {
-    navigate(
-        kinds,
-        numbers,
-        intervals,
-        made,
-        at,
-        direction,
-        direction.clockwise(),
-    )
+    navigate(sides, made, at, direction, direction.clockwise())
 }
 
 // From an opening: a march begins.
-fn opening_entry<'a>(
-    kinds: &'a [u8; 512],
-    numbers: &'a [u8; 512],
-    intervals: &'a [f64; 512],
+fn opening_entry(
+    sides: &LentSides,
     made: u8,
     direction: TmeshDirection,
     at: u8,
     bordered: bool,
-) -> Entry
-    ensures { result ≡ opening_entry (lent_sides kinds.now numbers.now intervals.now) made direction at bordered }
+) -> Result<Entry, Refusal>
+    ensures { result ≡ opening_entry (lent_sides sides.now) made direction at bordered }
 {
-    match walk_to_corner(kinds, numbers, intervals, made, direction, at) {
-        Walk::Refused(refusal) => Entry::Refused(refusal),
-        Walk::Reached(corner, distance, _) => {
-            match walk_over_face(kinds, numbers, intervals, made, direction, corner) {
-                Walk::Refused(refusal) => Entry::Refused(refusal),
-                Walk::Reached(next, sum, _) => {
-                    Entry::Is(0.0 + sum, in_march(next, bordered, distance))
-                }
-            }
-        }
-    }
+    let corner = walk_to_corner(sides, made, direction, at)?;
+    let over = walk_over_face(sides, made, direction, corner.at)?;
+    Ok(entry_with(0.0 + over.sum, in_march(over.at, bordered, corner.sum)))
 }
 
 // From a point that the ray meets.
-fn point_entry<'a>(
-    kinds: &'a [u8; 512],
-    numbers: &'a [u8; 512],
-    intervals: &'a [f64; 512],
+fn point_entry(
+    sides: &LentSides,
     made: u8,
     direction: TmeshDirection,
     at: u8,
     bordered: bool,
-) -> Entry
-    ensures { result ≡ point_entry (lent_sides kinds.now numbers.now intervals.now) made direction at bordered }
+) -> Result<Entry, Refusal>
+    ensures { result ≡ point_entry (lent_sides sides.now) made direction at bordered }
 {
-    match made_side_at(kinds, numbers, intervals, made, at, direction) {
-        SideAnswer::Refused(refusal) => Entry::Refused(refusal),
-        SideAnswer::Is(side) => match side {
-            Side::Link(next, interval) => Entry::Is(0.0 + interval, on_ray(next, bordered)),
-            Side::Border(weight) => {
-                if bordered {
-                    Entry::Is(0.0, on_ray(at, true))
-                } else {
-                    Entry::Is(0.0 + weight, on_ray(at, true))
-                }
+    match sides.made_side_at(made, at, direction)? {
+        Side::Link(next, interval) => Ok(entry_with(0.0 + interval, on_ray(next, bordered))),
+        Side::Border(weight) => {
+            if bordered {
+                Ok(entry_with(0.0, on_ray(at, true)))
+            } else {
+                Ok(entry_with(0.0 + weight, on_ray(at, true)))
             }
-            Side::Opening => {
-                opening_entry(kinds, numbers, intervals, made, direction, at, bordered)
-            }
-        },
+        }
+        Side::Opening => opening_entry(sides, made, direction, at, bordered),
     }
 }
 
 // In a march, from one corner of a face to the next.
-fn over_face<'a>(
-    kinds: &'a [u8; 512],
-    numbers: &'a [u8; 512],
-    intervals: &'a [f64; 512],
+fn over_face(
+    sides: &LentSides,
     made: u8,
     direction: TmeshDirection,
-    front: Front,
-) -> Entry
-    ensures { result ≡ over_face (lent_sides kinds.now numbers.now intervals.now) made direction front.at front.bordered front.distance }
+    at: u8,
+    bordered: bool,
+    distance: f64,
+) -> Result<Entry, Refusal>
+    ensures { result ≡ over_face (lent_sides sides.now) made direction at bordered distance }
 {
-    let at = front.at;
-    match walk_over_face(kinds, numbers, intervals, made, direction, at) {
-        Walk::Refused(refusal) => Entry::Refused(refusal),
-        Walk::Reached(next, sum, _) => {
-            Entry::Is(sum, in_march(next, front.bordered, front.distance))
-        }
-    }
+    let walk = walk_over_face(sides, made, direction, at)?;
+    Ok(entry_with(walk.sum, in_march(walk.at, bordered, distance)))
 }
 
 // The same, by way of the corner where the side is an opening.
-fn around_face<'a>(
-    kinds: &'a [u8; 512],
-    numbers: &'a [u8; 512],
-    intervals: &'a [f64; 512],
+fn around_face(
+    sides: &LentSides,
     made: u8,
     direction: TmeshDirection,
-    front: Front,
-) -> Entry
-    ensures { result ≡ around_face (lent_sides kinds.now numbers.now intervals.now) made direction front.at front.bordered front.distance }
+    at: u8,
+    bordered: bool,
+    distance: f64,
+) -> Result<Entry, Refusal>
+    ensures { result ≡ around_face (lent_sides sides.now) made direction at bordered distance }
 {
-    let at = front.at;
-    if !is_opening(side_at(kinds, numbers, intervals, at, direction)) {
-        return over_face(kinds, numbers, intervals, made, direction, front);
+    if !is_opening(sides.side_at(at, direction)) {
+        return over_face(sides, made, direction, at, bordered, distance);
     }
-    match walk_to_corner(kinds, numbers, intervals, made, direction, at) {
-        Walk::Refused(refusal) => Entry::Refused(refusal),
-        Walk::Reached(corner, sum, _) => {
-            let front = in_march(corner, front.bordered, front.distance + sum);
-            over_face(kinds, numbers, intervals, made, direction, front)
-        }
-    }
+    let corner = walk_to_corner(sides, made, direction, at)?;
+    over_face(
+        sides,
+        made,
+        direction,
+        corner.at,
+        bordered,
+        distance + corner.sum,
+    )
 }
 
 // From a point at a distance from the ray.
-fn march_entry<'a>(
+fn march_entry(
     closeness: f64,
-    kinds: &'a [u8; 512],
-    numbers: &'a [u8; 512],
-    intervals: &'a [f64; 512],
+    sides: &LentSides,
     made: u8,
     direction: TmeshDirection,
-    front: Front,
-) -> Entry
-    ensures { result ≡ march_entry closeness (lent_sides kinds.now numbers.now intervals.now) made direction front.at front.bordered front.distance }
+    at: u8,
+    bordered: bool,
+    distance: f64,
+) -> Result<Entry, Refusal>
+    ensures { result ≡ march_entry closeness (lent_sides sides.now) made direction at bordered distance }
 {
-    let at = front.at;
-    let bordered = front.bordered;
-    if is_border(side_at(kinds, numbers, intervals, at, direction)) {
-        return point_entry(kinds, numbers, intervals, made, direction, at, bordered);
+    if is_border(sides.side_at(at, direction)) {
+        return point_entry(sides, made, direction, at, bordered);
     }
-    match approach_ray(
-        closeness,
-        kinds,
-        numbers,
-        intervals,
-        made,
-        direction,
-        at,
-        front.distance,
-    ) {
-        Approach::Refused(refusal) => Entry::Refused(refusal),
-        Approach::Aligned(last) => {
-            point_entry(kinds, numbers, intervals, made, direction, last, bordered)
-        }
-        Approach::Crossed(last, left) => {
-            let front = in_march(last, bordered, left);
-            around_face(kinds, numbers, intervals, made, direction, front)
-        }
+    match approach_ray(closeness, sides, made, direction, at, distance)? {
+        Approach::Aligned(last) => point_entry(sides, made, direction, last, bordered),
+        Approach::Crossed(last, left) => around_face(sides, made, direction, last, bordered, left),
     }
 }
 
 // The next entry from a front.
-pub fn next_entry<'a>(
+pub fn next_entry(
     closeness: f64,
-    kinds: &'a [u8; 512],
-    numbers: &'a [u8; 512],
-    intervals: &'a [f64; 512],
+    sides: &LentSides,
     made: u8,
     direction: TmeshDirection,
     front: Front,
-) -> Entry
-    ensures { result ≡ entry_of closeness (lent_sides kinds.now numbers.now intervals.now) made direction front }
+) -> Result<Entry, Refusal>
+    ensures { result ≡ entry_of closeness (lent_sides sides.now) made direction front }
 {
-    let at = front.at;
-    let bordered = front.bordered;
-    if front.marching {
-        return march_entry(closeness, kinds, numbers, intervals, made, direction, front);
+    let Front {
+        at,
+        bordered,
+        march,
+    } = front;
+    match march {
+        Some(distance) => march_entry(closeness, sides, made, direction, at, bordered, distance),
+        None => point_entry(sides, made, direction, at, bordered),
     }
-    point_entry(kinds, numbers, intervals, made, direction, at, bordered)
 }

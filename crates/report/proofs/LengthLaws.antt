@@ -1,16 +1,16 @@
 -- How long the parts of a report are at most: a number has at most four digits, so each line is short, and there are as many lines as edits and sides at most.
-use Rattle.std.specs.Prelude.{ℕ, zero, suc, ◌+◌, ◌*◌, ◌≤◌, ◌≡◌, refl, Bool, true, false, cond, List, [], ◌∷◌, ◌++◌, ltb, eqb, Float, length}
+use Rattle.std.specs.Prelude.{ℕ, zero, suc, ◌+◌, ◌*◌, ◌≤◌, ◌≡◌, refl, Bool, true, false, cond, List, [], ◌∷◌, ◌++◌, ltb, eqb, Float, length, Err, Ok, Result}
 use Rattle.std.proofs.Common.{ap, ◌∙◌, arith, lit≤, length-append}
 use Rattle.control_point.specs.Refusal.{refusal_number}
 use Rattle.t_mesh.specs.declared.t_mesh.Tmesh.{Tmesh}
-use Rattle.surface.specs.declared.evaluation.EvaluationAnswer.{EvaluationAnswer}
-use Rattle.surface.specs.declared.evaluation.EvaluationAnswer.TheVariants.{Is, Refused as NotEvaluated}
 use Rattle.census.specs.declared.census.Counts.{Counts}
 use Rattle.openings.specs.Openings.{PointSide, point_entry, direction_entry}
 use Rattle.map_format.specs.Format.{edits_at, edit_bytes, file_withdraws, Edit, edits_from}
 use Rattle.map_file.specs.Run.{edited, fresh_map, edit_answers, edit_numbers, file_numbers}
 use Rattle.report_text.specs.Text.{edit_word, newline, decimal, number_text, bits_text, refused_text}
 use Rattle.report_lines.specs.Lines.{edit_line, edit_lines, counts_line, open_line, open_lines, mid_text, mid_line}
+use Rattle.control_point.specs.declared.refusal.Refusal.{Refusal}
+use Rattle.surface.specs.declared.evaluation.Evaluation.{Evaluation}
 
 -- ---- numbers
 decimal_by : (n : ℕ) (a b c : Bool) → ltb n 10 ≡ a → ltb n 100 ≡ b → ltb n 1000 ≡ c → length (decimal n) ≤ 4
@@ -58,12 +58,12 @@ open_lines_few (side ∷ rest) =
     let k = direction_entry side in
     omega (arith, length-append (open_line n k) (open_lines rest), open_line_few n k, open_lines_few rest)
 
-mid_text_few : (answer : EvaluationAnswer) → length (mid_text answer) ≤ 68
-mid_text_few (Is value) =
+mid_text_few : (answer : Result Evaluation Refusal) → length (mid_text answer) ≤ 68
+mid_text_few (Ok value) =
     simp length-append (omega (arith, bits_length value.x, bits_length value.y, bits_length value.z, bits_length value.weight))
-mid_text_few (NotEvaluated refusal) = omega (arith, decimal_few (refusal_number refusal))
+mid_text_few (Err refusal) = omega (arith, decimal_few (refusal_number refusal))
 
-pub mid_line_few : (answer : EvaluationAnswer) → length (mid_line answer) ≤ 72
+pub mid_line_few : (answer : Result Evaluation Refusal) → length (mid_line answer) ≤ 72
 mid_line_few answer = omega (arith, length-append (mid_text answer) newline, mid_text_few answer)
 
 pub refused_few : (n : ℕ) → length (refused_text n) ≤ 13

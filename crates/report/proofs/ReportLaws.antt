@@ -15,11 +15,12 @@ use Rattle.counting.proofs.CountLaws.{count_few}
 use Rattle.census.specs.Census.{has_side, counts_of}
 use Rattle.census.specs.declared.census.Counts.{Counts}
 use Rattle.map_format.specs.Format.{checked_file}
-use Rattle.counted_file.specs.declared.FileCheck.{FileCheck}
 use Rattle.report_text.specs.Put.{Put, Fits}
 use Rattle.report_text.specs.Text.{printed_below}
 use Rattle.report.specs.Report.{checked_report, report_of}
 use Rattle.report.proofs.ReportFitsProof.{report_fits}
+use Rattle.std.specs.Prelude.{Result}
+use Rattle.control_point.specs.declared.refusal.Refusal.{Refusal}
 
 -- ---- the numbers noted
 written_sets : (buffer : List ℕ) (at : ℕ) (bytes : List ℕ) → written buffer at bytes ≡ sets buffer at bytes
@@ -47,7 +48,7 @@ pub counted_few : (map : Tmesh) (counts : Counts) → counts ≡ counts_of map �
 counted_few map counts so = omega (arith, links_few map, ap (λ (c : Counts). c.links) so)
 
 -- ---- the report of a file, by its check
-module _ (file : List ℕ) (check : FileCheck) (checked : checked_file file ≡ check) where
+module _ (file : List ℕ) (check : Result ℕ Refusal) (checked : checked_file file ≡ check) where
   by_check : checked_report file check ≡ report_of file
   unfolding report_of
   by_check = ap (checked_report file) (sym checked)

@@ -9,7 +9,6 @@ ghost use Rattle.report.specs.Report.{map_report, file_refused, valid_report, re
 
 use census::counts::counts;
 use control_point::refusal::Refusal;
-use counted_file::FileCheck;
 use map_format::format::{MOST_EDITS, validate};
 use map_run::run_edits;
 use report_lines::lines::{put_counts_line, put_edit_lines, put_mid_line, put_open_lines};
@@ -56,7 +55,7 @@ pub fn report(file: &[u8], out: &mut [u8]) -> usize
     ensures { (result ≡ length (report_of file.now)) × (out.new ≡ written out.old 0 (report_of file.now)) }
 {
     match validate(file) {
-        FileCheck::Refused(refusal) => put_file_refused(out, refusal),
-        FileCheck::Valid(count) => put_valid(out, file, count),
+        Err(refusal) => put_file_refused(out, refusal),
+        Ok(count) => put_valid(out, file, count),
     }
 }

@@ -1,12 +1,11 @@
 -- The lines of a report, as the bytes of their text.
-use Rattle.std.specs.Prelude.{ℕ, ◌+◌, cond, List, [], ◌∷◌, ◌++◌, eqb}
+use Rattle.std.specs.Prelude.{ℕ, ◌+◌, cond, List, [], ◌∷◌, ◌++◌, eqb, Err, Ok, Result}
 use Rattle.control_point.specs.Refusal.{refusal_number}
 use Rattle.surface.specs.declared.evaluation.Evaluation.{Evaluation}
-use Rattle.surface.specs.declared.evaluation.EvaluationAnswer.{EvaluationAnswer}
-use Rattle.surface.specs.declared.evaluation.EvaluationAnswer.TheVariants.{Is, Refused as NotEvaluated}
 use Rattle.census.specs.declared.census.Counts.{Counts}
 use Rattle.openings.specs.Openings.{PointSide, point_entry, direction_entry}
 use Rattle.report_text.specs.Text.{edit_word, made_word, listed_word, links_word, open_word, mid_word, space, newline, number_text, bits_text, refused_text}
+use Rattle.control_point.specs.declared.refusal.Refusal.{Refusal}
 
 -- `edit K refused N`, where the answer number is not 0
 abbrev pub edit_line : ℕ → ℕ → List ℕ
@@ -37,9 +36,9 @@ open_lines (side ∷ rest) = open_line (point_entry side) (direction_entry side)
 abbrev pub value_text : Evaluation → List ℕ
 value_text value = bits_text value.x ++ (bits_text value.y ++ (bits_text value.z ++ bits_text value.weight))
 
-abbrev pub mid_text : EvaluationAnswer → List ℕ
-mid_text (Is value) = value_text value
-mid_text (NotEvaluated refusal) = refused_text (refusal_number refusal)
+abbrev pub mid_text : Result Evaluation Refusal → List ℕ
+mid_text (Ok value) = value_text value
+mid_text (Err refusal) = refused_text (refusal_number refusal)
 
-abbrev pub mid_line : EvaluationAnswer → List ℕ
+abbrev pub mid_line : Result Evaluation Refusal → List ℕ
 mid_line answer = mid_word ++ (mid_text answer ++ newline)

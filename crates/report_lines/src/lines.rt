@@ -7,10 +7,11 @@ ghost use Rattle.report_text.specs.Text.{printed_below};
 ghost use Rattle.report_lines.specs.Lines.{edit_line, edit_lines, counts_line, open_line, open_lines, value_text, mid_text, mid_line};
 
 use census::census::Counts;
+use control_point::refusal::Refusal;
 use openings::openings::openings;
 use report_text::text::{put_bits, put_labelled, put_number, put_refused, put_text};
 use store::store::Store;
-use surface::evaluation::{Evaluation, EvaluationAnswer};
+use surface::evaluation::Evaluation;
 
 // The line of an edit, by its answer number: none where that is 0.
 fn put_edit_line(out: &mut [u8], at: usize, edit: u64, number: u8) -> usize
@@ -33,10 +34,8 @@ pub fn put_edit_lines(out: &mut [u8], at: usize, numbers: &[u8]) -> usize
     ensures { Put out.old at (edit_lines 1 numbers.now) out.new result }
 {
     let mut end = at;
-    let mut i: usize = 0;
-    while i < numbers.len() {
+    for i in 0..numbers.len() {
         end = put_edit_line(out, end, i as u64 + 1, numbers[i]);
-        i += 1;
     }
     end
 }
@@ -46,9 +45,9 @@ pub fn put_counts_line(out: &mut [u8], at: usize, counts: Counts) -> usize
     requires fits { Fits at (counts_line counts) }
     ensures { Put out.old at (counts_line counts) out.new result }
 {
-    let made = put_labelled(out, at, b"made", counts.made as u64);
-    let listed = put_labelled(out, made, b" listed", counts.listed as u64);
-    let links = put_labelled(out, listed, b" links", counts.links as u64);
+    let made = put_labelled(out, at, b"made", u64::from(counts.made));
+    let listed = put_labelled(out, made, b" listed", u64::from(counts.listed));
+    let links = put_labelled(out, listed, b" links", u64::from(counts.links));
     put_text(out, links, b"\n")
 }
 
@@ -57,8 +56,8 @@ fn put_open_line(out: &mut [u8], at: usize, n: u8, direction: u8) -> usize
     requires { Fits at (open_line n direction) }
     ensures { Put out.old at (open_line n direction) out.new result }
 {
-    let point = put_labelled(out, at, b"open", n as u64);
-    let end = put_number(out, point, direction as u64);
+    let point = put_labelled(out, at, b"open", u64::from(n));
+    let end = put_number(out, point, u64::from(direction));
     put_text(out, end, b"\n")
 }
 
@@ -68,14 +67,10 @@ pub fn put_open_lines(out: &mut [u8], at: usize, store: Store) -> usize
     ensures { Put out.old at (open_lines (openings_of store)) out.new result }
 {
     let list = openings(store);
-    let count = list.count as usize;
+    let count = usize::from(list.count);
     let mut end = at;
-    let mut i: usize = 0;
-    while i < count {
-        let n = list.points[i];
-        let direction = list.directions[i];
-        end = put_open_line(out, end, n, direction);
-        i += 1;
+    for i in 0..count {
+        end = put_open_line(out, end, list.points[i], list.directions[i]);
     }
     end
 }
@@ -91,17 +86,17 @@ fn put_value(out: &mut [u8], at: usize, value: Evaluation) -> usize
     put_bits(out, z, value.weight)
 }
 
-fn put_mid_text(out: &mut [u8], at: usize, answer: EvaluationAnswer) -> usize
+fn put_mid_text(out: &mut [u8], at: usize, answer: Result<Evaluation, Refusal>) -> usize
     requires { Fits at (mid_text answer) }
     ensures { Put out.old at (mid_text answer) out.new result }
 {
     match answer {
-        EvaluationAnswer::Is(value) => put_value(out, at, value),
-        EvaluationAnswer::Refused(refusal) => put_refused(out, at, refusal.number()),
+        Ok(value) => put_value(out, at, value),
+        Err(refusal) => put_refused(out, at, refusal.number()),
     }
 }
 
-pub fn put_mid_line(out: &mut [u8], at: usize, answer: EvaluationAnswer) -> usize
+pub fn put_mid_line(out: &mut [u8], at: usize, answer: Result<Evaluation, Refusal>) -> usize
     requires { Fits at (mid_line answer) }
     ensures { Put out.old at (mid_line answer) out.new result }
 {

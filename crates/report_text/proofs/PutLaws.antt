@@ -5,7 +5,7 @@ use mathlib.Core.List.{List, [], ◌∷◌, ◌++◌}
 use native.Mathlib.Numerals.{add-one}
 use native.Mathlib.Omega.{arith}
 use lib.ListN.{length, get_or, set, take, length-append}
-use lib.Seq.{take-suc, take-length, length-take-le}
+use lib.Seq.{take-suc, length-take-le}
 use Rattle.big_endian.specs.Written.{written}
 use Rattle.big_endian.proofs.WrittenLaws.{written_append}
 use Rattle.report_text.specs.Put.{Put, Fits}
@@ -48,14 +48,6 @@ written_next before at text out i inside so =
     ∙ ap (λ (n : ℕ). set (written before at (take i text)) (at + n) b) (sym (length-take-le i text (omega arith)))
     ∙ sym (written_append before at (take i text) (b ∷ []))
     ∙ ap (λ (bytes : List ℕ). written before at bytes) (sym (take-suc text i 0 inside) ∙ ap (λ (n : ℕ). take n text) (sym (add-one i)))
-
--- all of a text
-pub put_all : (before : List ℕ) (at : ℕ) (text out : List ℕ) (i : ℕ) → i ≡ length text → out ≡ written before at (take i text) → Put before at text out (at + i)
-put_all before at text out i whole so =
-    record {
-      wrote = so ∙ ap (λ (bytes : List ℕ). written before at bytes) (ap (λ (n : ℕ). take n text) whole ∙ take-length text);
-      ends = omega arith;
-    }
 
 -- the same text
 pub put_as : {before text same after : List ℕ} {at end : ℕ} → text ≡ same → Put before at text after end → Put before at same after end

@@ -1,4 +1,5 @@
 // Words and numbers put into a lent buffer at a place, as far as the buffer reaches. Each answers the place after its text.
+// Buffer and place are no struct: a struct that holds a lent buffer is no plainer, since each function of it would promise besides that it still holds the same buffer.
 ghost use Rattle.std.specs.Prelude.{◌<◌, ◌++◌};
 ghost use Rattle.report_text.specs.Put.{Put, Fits};
 ghost use Rattle.report_text.specs.Text.{printed_below, space, number_text, bits_text, refused_text};
@@ -9,12 +10,10 @@ pub fn put_text(out: &mut [u8], at: usize, text: &[u8]) -> usize
     requires { Fits at text.now }
     ensures { Put out.old at text.now out.new result }
 {
-    let mut i: usize = 0;
-    while i < text.len() {
+    for i in 0..text.len() {
         put_byte(out, at + i, text[i]);
-        i += 1;
     }
-    at + i
+    at + text.len()
 }
 
 // A space, and a word behind it.
@@ -62,5 +61,5 @@ pub fn put_refused(out: &mut [u8], at: usize, number: u8) -> usize
     requires { Fits at (refused_text number) }
     ensures { Put out.old at (refused_text number) out.new result }
 {
-    put_labelled(out, at, b" refused", number as u64)
+    put_labelled(out, at, b" refused", u64::from(number))
 }

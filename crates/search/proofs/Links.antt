@@ -11,25 +11,26 @@ use Rattle.control_point.specs.declared.t_mesh_control_point.Side.TheVariants.{L
 use Rattle.control_point.specs.declared.t_mesh_direction.TmeshDirection.{TmeshDirection}
 use Rattle.search.specs.Search.{judge_at, concluded, move_over, seek_from}
 use Rattle.search.proofs.SearchLaws.{seek_step}
-use Rattle.search.specs.declared.search.Found.{Found}
-use Rattle.search.specs.declared.search.Found.TheVariants.{Failed}
+use Rattle.std.specs.Prelude.{Err, Option, Result}
+use Rattle.control_point.specs.declared.refusal.Refusal.{Refusal}
+use Rattle.control_point.specs.declared.t_mesh_control_point.LinkEnd.{LinkEnd}
 use Rattle.search.specs.declared.search.Judged.{Judged}
 
 -- a side that is no link: a move over it fails
-pub move_refused : (side : Side) (next : ℕ → Float → Found) → ((n : ℕ) (k : Float) → side ≡ Link n k → ⊥) → move_over side next ≡ Failed (side_refusal side)
+pub move_refused : (side : Side) (next : ℕ → Float → Result (Option LinkEnd) Refusal) → ((n : ℕ) (k : Float) → side ≡ Link n k → ⊥) → move_over side next ≡ Err (side_refusal side)
 move_refused (Link n k) next h = absurd (h n k refl)
 move_refused (Border weight) next h = refl
 move_refused Opening next h = refl
 
 module _ (e : Float) (sides : Sides) (made p : ℕ) (f : TmeshDirection) (measure interval : Float) where
   -- what follows a move, with so many moves left
-  unfoldable next : ℕ → Float → ℕ → Float → Found
+  unfoldable next : ℕ → Float → ℕ → Float → Result (Option LinkEnd) Refusal
   next left sum n k =
       concluded (judge_at e sides made p f n measure (add binary64 sum k)) n interval (seek_from left e sides made p f n measure (add binary64 sum k) interval)
 
   module _ (at : ℕ) (sum : Float) (moves : ℕ) (more : moves < made) where
     pub turn_refused : (side : Side) → side ≡ sides at (anti_clockwise_of f) → ((n : ℕ) (k : Float) → side ≡ Link n k → ⊥)
-        → seek_from (made - moves) e sides made p f at measure sum interval ≡ Failed (side_refusal side)
+        → seek_from (made - moves) e sides made p f at measure sum interval ≡ Err (side_refusal side)
     unfolding next
     turn_refused side is h =
         seek_step e sides made p f at measure sum interval _ (made - (moves + 1)) (omega arith)
@@ -37,11 +38,11 @@ module _ (e : Float) (sides : Sides) (made p : ℕ) (f : TmeshDirection) (measur
         ∙ move_refused side (next (made - (moves + 1)) sum) h
 
     pub turn_judged : (n : ℕ) (k : Float) → Link n k ≡ sides at (anti_clockwise_of f)
-        → (judged : Judged) → judged ≡ judge_at e sides made p f n measure (add binary64 sum k)
+        → (judged : Result Judged Refusal) → judged ≡ judge_at e sides made p f n measure (add binary64 sum k)
         → seek_from (made - moves) e sides made p f at measure sum interval
         ≡ concluded judged n interval (seek_from (made - (moves + 1)) e sides made p f n measure (add binary64 sum k) interval)
     unfolding next
     turn_judged n k is judged j =
         seek_step e sides made p f at measure sum interval _ (made - (moves + 1)) (omega arith)
         ∙ ap (λ (x : Side). move_over x (next (made - (moves + 1)) sum)) (sym is)
-        ∙ ap (λ (x : Judged). concluded x n interval (seek_from (made - (moves + 1)) e sides made p f n measure (add binary64 sum k) interval)) (sym j)
+        ∙ ap (λ (x : Result Judged Refusal). concluded x n interval (seek_from (made - (moves + 1)) e sides made p f n measure (add binary64 sum k) interval)) (sym j)

@@ -1,6 +1,6 @@
 -- A search tells what its table says.
 use Prim.Native.Nat.{ℕ, zero, suc}
-use Rattle.std.specs.Prelude.{◌≡◌, Bool, not, cond, ◌&&◌, ◌||◌, [], ◌∷◌, eqb}
+use Rattle.std.specs.Prelude.{◌≡◌, Bool, not, cond, ◌&&◌, ◌||◌, [], ◌∷◌, eqb, Err, Ok, Option, Result}
 use Rattle.std.proofs.Math.Path.{refl}
 use Rattle.std.proofs.Common.{sym, ap, true≢false}
 use Rattle.std.proofs.Math.Bool.{true, false}
@@ -15,30 +15,29 @@ use Rattle.control_point.specs.Told.{Told, natural, float, tells, unless}
 use Rattle.navigation.specs.Table.{step_table, walked_table}
 use Rattle.navigation.specs.Walk.{walk_of}
 use Rattle.navigation.proofs.WalkLaws.{walk_unmade}
-use Rattle.control_point.specs.declared.refusal.Outcome.TheVariants.{Done, Refused}
 use Rattle.control_point.specs.declared.refusal.Refusal.TheVariants.{NoPoint, Itself, Taken}
 use Rattle.control_point.specs.declared.t_mesh_control_point.Side.{Side}
 use Rattle.control_point.specs.declared.t_mesh_control_point.Side.TheVariants.{Link, Border, Opening}
 use Rattle.control_point.specs.declared.t_mesh_direction.TmeshDirection.{TmeshDirection}
-use Rattle.navigation.specs.declared.walk.Walk.{Walk}
-use Rattle.navigation.specs.declared.walk.Walk.TheVariants.{Reached, Refused as NoWalk}
 use Rattle.search.specs.Search.{found_told, after_connecting, judge_at, concluded, move_over, seek_from, walked, find_inferred_connection}
 use Rattle.search.specs.Table.{moved_table, seek_table, search_table}
-use Rattle.search.specs.declared.search.Found.{Found}
-use Rattle.search.specs.declared.search.Judged.TheVariants.{On, Ends, Fails}
+use Rattle.search.specs.declared.search.Judged.TheVariants.{On, Ends}
+use Rattle.control_point.specs.declared.refusal.Refusal.{Refusal}
+use Rattle.navigation.specs.declared.walk.Walk.{Walk}
+use Rattle.control_point.specs.declared.t_mesh_control_point.LinkEnd.{LinkEnd}
 
-module _ (next : ℕ → Float → Found) (table : ℕ → Float → Told) (h : (n : ℕ) (k : Float) → found_told (next n k) ≡ table n k) where
+module _ (next : ℕ → Float → Result (Option LinkEnd) Refusal) (table : ℕ → Float → Told) (h : (n : ℕ) (k : Float) → found_told (next n k) ≡ table n k) where
   move_told : (side : Side) → found_told (move_over side next) ≡ step_table side table
   move_told (Link n k) = h n k
   move_told (Border weight) = refl
   move_told Opening = refl
 
-  walked_told : (walk : Walk) → found_told (walked walk next) ≡ walked_table walk table
-  walked_told (Reached n sum moves) = h n sum
-  walked_told (NoWalk refusal) = refl
+  walked_told : (walk : Result Walk Refusal) → found_told (walked walk next) ≡ walked_table walk table
+  walked_told (Ok walk) = h walk.at walk.sum
+  walked_told (Err refusal) = refl
 
 module _ (e : Float) (sides : Sides) (made p : ℕ) (f : TmeshDirection) where
-  moved_told : is_made made p ≡ true → (at : ℕ) (measure sum interval : Float) (rest : Found) (on : Told) → found_told rest ≡ on
+  moved_told : is_made made p ≡ true → (at : ℕ) (measure sum interval : Float) (rest : Result (Option LinkEnd) Refusal) (on : Told) → found_told rest ≡ on
       → found_told (concluded (judge_at e sides made p f at measure sum) at interval rest) ≡ moved_table e sides made p f at measure sum interval on
   unfolding judge_at connectable
   moved_told m at measure sum interval rest on h =
@@ -48,8 +47,8 @@ module _ (e : Float) (sides : Sides) (made p : ℕ) (f : TmeshDirection) where
           → found_told
           (concluded
           (cond other
-          (cond near (after_connecting (cond (first && other) (cond same (Refused Itself) (cond free Done (Refused Taken))) (Refused NoPoint))) (cond past Ends On))
-          (Fails NoPoint))
+          (cond near (after_connecting (cond (first && other) (cond same (Err Itself) (cond free (Ok tt) (Err Taken))) (Err NoPoint))) (cond past (Ok Ends) (Ok On)))
+          (Err NoPoint))
           at interval rest)
           ≡ unless 11 other (cond near (unless 7 (not same) (cond free (tells (natural at ∷ (float interval ∷ []))) on)) (cond past (tells []) on))
       by_tests true true true true free past x = refl
@@ -73,7 +72,7 @@ module _ (e : Float) (sides : Sides) (made p : ℕ) (f : TmeshDirection) where
   unfolding find_inferred_connection search_table
   search_told = by_made (is_made made p) refl
     where
-      onward : ℕ → Float → Found
+      onward : ℕ → Float → Result (Option LinkEnd) Refusal
       onward corner measure = walked (walk_of sides made corner f (anti_clockwise_of f)) (λ start interval. seek_from made e sides made p f start measure zero_literal interval)
 
       table : ℕ → Float → Told
@@ -85,4 +84,4 @@ module _ (e : Float) (sides : Sides) (made p : ℕ) (f : TmeshDirection) where
           walked_told onward table
           (λ corner measure. walked_told _ _ (λ start interval. seek_told m made start measure zero_literal interval) (walk_of sides made corner f (anti_clockwise_of f)))
           (walk_of sides made p (clockwise_of f) f)
-      by_made false m = ap (λ (walk : Walk). found_told (walked walk onward)) (walk_unmade sides made (clockwise_of f) f p m)
+      by_made false m = ap (λ (walk : Result Walk Refusal). found_told (walked walk onward)) (walk_unmade sides made (clockwise_of f) f p m)

@@ -1,11 +1,9 @@
 -- The order of the windows is not seen: what is said of some window, of some two windows, and of the one window that holds does not depend on their numbers.
-use Rattle.std.specs.Prelude.{ℕ, ◌-◌, ◌/◌, ◌^◌, ◌<◌, ◌≡◌, Bool, true, false, List, eqb}
+use Rattle.std.specs.Prelude.{ℕ, ◌-◌, ◌/◌, ◌^◌, ◌<◌, ◌≡◌, Bool, true, false, List, eqb, Err, Ok, Result}
 use Rattle.std.proofs.Math.Path.{refl}
 use Rattle.std.proofs.Common.{sym, ap, ◌∙◌, subst, inl, ⊎_elim, arith}
 use Rattle.big_endian.specs.BigEndian.{number_at}
 use Rattle.counted_file.specs.Counted.{count_bytes, version_at, counted_right}
-use Rattle.counted_file.specs.declared.FileCheck.{FileCheck}
-use Rattle.counted_file.specs.declared.FileCheck.TheVariants.{Valid, Refused as Invalid}
 use Rattle.counting.proofs.BoolLaws.{same_tests}
 use Rattle.counting.specs.Counting.{some_below}
 use Rattle.counting.proofs.SomeLaws.{some_tells, some_shows}
@@ -16,7 +14,7 @@ use Rattle.season.specs.Season.{windows_at, window_bytes, the_version, window_of
 use Rattle.season.proofs.SeasonLaws.{valid_tells}
 use Rattle.season.specs.Theorems.{Clashing, Reordered, OrderUnseen}
 use Rattle.season.proofs.TheoremsProof.{pair_clashes, clash_tells, clash_shows, holding_found, map_of_holding, map_of_none}
-use Rattle.season.specs.declared.SeasonAnswer.TheVariants.{Is}
+use Rattle.control_point.specs.declared.refusal.Refusal.{Refusal}
 
 same_count : (season other : List ℕ) → Reordered season other → window_count season ≡ window_count other
 same_count season other r = ap (λ (n : ℕ). (n - windows_at) / window_bytes) r.lengths
@@ -103,10 +101,10 @@ module _ (season other : List ℕ) (r : Reordered season other) where
   same_holding m = same_tests _ _ (some_moved season other r (λ w. holds_at w m)) (some_moved other season (turned season other r) (λ w. holds_at w m))
 
   -- where both are valid, the window that holds is the same, and so is its map
-  same_valid : (m n : ℕ) → m < 2 ^ 32 → checked_season season ≡ Valid n → season_map season m ≡ season_map other m
+  same_valid : (m n : ℕ) → m < 2 ^ 32 → checked_season season ≡ Ok n → season_map season m ≡ season_map other m
   same_valid m n bits valid = by_test (some_holds season m n) refl
     where
-      other_valid : checked_season other ≡ Valid n
+      other_valid : checked_season other ≡ Ok n
       other_valid = sym same_check ∙ valid
 
       count : window_count season ≡ n
@@ -119,7 +117,7 @@ module _ (season other : List ℕ) (r : Reordered season other) where
           let below = subst (λ (k : ℕ). i < k) (sym count) found.1 in
           let same = r.windows i below in
           let held = map_of_holding other n other_valid m (r.moved i) bits (subst (λ (k : ℕ). r.moved i < k) count (r.moved_in i below)) (subst (λ (w : Window). Holds w m) (sym same) found.2) in
-          map_of_holding season n valid m i bits found.1 found.2 ∙ sym (held ∙ ap (λ (w : Window). Is w.map) same)
+          map_of_holding season n valid m i bits found.1 found.2 ∙ sym (held ∙ ap (λ (w : Window). Ok w.map) same)
       by_test false none =
           let here = ap (some_holds season m) count ∙ none in
           let there = ap (some_holds other m) (sym (valid_tells other n other_valid).counted) ∙ sym (same_holding m) ∙ here in
@@ -128,6 +126,6 @@ module _ (season other : List ℕ) (r : Reordered season other) where
 pub order_unseen : OrderUnseen
 order_unseen season other r = (same_check season other r, λ m bits. by_check m bits (checked_season season) refl)
   where
-    by_check : (m : ℕ) → m < 2 ^ 32 → (check : FileCheck) → checked_season season ≡ check → season_map season m ≡ season_map other m
-    by_check m bits (Valid n) valid = same_valid season other r m n bits valid
-    by_check m bits (Invalid refusal) refused = ap (checked_map season m) refused ∙ sym (ap (checked_map other m) (sym (same_check season other r) ∙ refused))
+    by_check : (m : ℕ) → m < 2 ^ 32 → (check : Result ℕ Refusal) → checked_season season ≡ check → season_map season m ≡ season_map other m
+    by_check m bits (Ok n) valid = same_valid season other r m n bits valid
+    by_check m bits (Err refusal) refused = ap (checked_map season m) refused ∙ sym (ap (checked_map other m) (sym (same_check season other r) ∙ refused))

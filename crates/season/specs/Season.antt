@@ -10,18 +10,15 @@
 -- Refusals in order: 12 a file under 4 bytes, a wrong count, or one that is not 1 + 13 × 0..64; 12 a first or last minute of the day above 1440, in any window; 13 a version other than 1;
 -- 18 two windows that hold in some common minute, or one that can hold in none. Of a season that is not refused, the answer at a minute is the map number of the window that holds; 19 where none
 -- does.
-use Rattle.std.specs.Prelude.{ℕ, ◌+◌, ◌*◌, Bool, not, cond, ◌||◌, List, [], ◌∷◌, eqb}
+use Rattle.std.specs.Prelude.{ℕ, ◌+◌, ◌*◌, Bool, not, cond, ◌||◌, List, [], ◌∷◌, eqb, Err, Ok, Result}
 use Rattle.big_endian.specs.BigEndian.{byte_at, number_at}
 use Rattle.control_point.specs.Told.{Told, natural, tells, unless, refusal_told}
 use Rattle.control_point.specs.declared.refusal.Refusal.TheVariants.{Length, Version, Clash, Shut}
 use Rattle.counted_file.specs.Counted.{version_at, item_count, counted_right}
-use Rattle.counted_file.specs.declared.FileCheck.{FileCheck}
-use Rattle.counted_file.specs.declared.FileCheck.TheVariants.{Valid, Refused as Invalid}
 use Rattle.counting.specs.Counting.{some_below, last_below}
 use Rattle.season_window.specs.Window.{past_day, holds_at, can_hold, hold_together}
 use Rattle.season_window.specs.declared.Window.{Window}
-use Rattle.season.specs.declared.SeasonAnswer.{SeasonAnswer}
-use Rattle.season.specs.declared.SeasonAnswer.TheVariants.{Is, Refused}
+use Rattle.control_point.specs.declared.refusal.Refusal.{Refusal}
 
 -- ---- sizes and places
 abbrev pub the_version : ℕ
@@ -89,15 +86,15 @@ abbrev pub clashes : List ℕ → ℕ → Bool
 clashes season count = some_below count (λ n. not (can_hold (window_of season n)) || holds_with_one season n (window_of season n))
 
 -- 12, 12 again, 13 and 18 in order; else the count of windows
-unfoldable pub checked_season : List ℕ → FileCheck
+unfoldable pub checked_season : List ℕ → Result ℕ Refusal
 checked_season season =
     cond (season_length_right season)
     (cond (not (days_wrong season (window_count season)))
     (cond (season_version_right season)
-    (cond (not (clashes season (window_count season))) (Valid (window_count season)) (Invalid Clash))
-    (Invalid Version))
-    (Invalid Length))
-    (Invalid Length)
+    (cond (not (clashes season (window_count season))) (Ok (window_count season)) (Err Clash))
+    (Err Version))
+    (Err Length))
+    (Err Length)
 
 -- ---- the map at a minute
 -- some window of the first so many holds
@@ -108,24 +105,24 @@ some_holds season minute count = some_below count (λ n. holds_at (window_of sea
 abbrev pub map_held : List ℕ → ℕ → ℕ → ℕ
 map_held season minute count = (window_of season (last_below count (λ n. holds_at (window_of season n) minute))).map
 
-abbrev pub map_among : List ℕ → ℕ → ℕ → SeasonAnswer
-map_among season minute count = cond (some_holds season minute count) (Is (map_held season minute count)) (Refused Shut)
+abbrev pub map_among : List ℕ → ℕ → ℕ → Result ℕ Refusal
+map_among season minute count = cond (some_holds season minute count) (Ok (map_held season minute count)) (Err Shut)
 
 -- the season's own refusal first
-abbrev pub checked_map : List ℕ → ℕ → FileCheck → SeasonAnswer
-checked_map season minute (Valid count) = map_among season minute count
-checked_map season minute (Invalid refusal) = Refused refusal
+abbrev pub checked_map : List ℕ → ℕ → Result ℕ Refusal → Result ℕ Refusal
+checked_map season minute (Ok count) = map_among season minute count
+checked_map season minute (Err refusal) = Err refusal
 
-abbrev pub season_map : List ℕ → ℕ → SeasonAnswer
+abbrev pub season_map : List ℕ → ℕ → Result ℕ Refusal
 season_map season minute = checked_map season minute (checked_season season)
 
 -- ---- what is told
 -- the map number, or the refusal's
-abbrev pub season_told : SeasonAnswer → Told
-season_told (Is map) = tells (natural map ∷ [])
-season_told (Refused refusal) = refusal_told refusal
+abbrev pub season_told : Result ℕ Refusal → Told
+season_told (Ok map) = tells (natural map ∷ [])
+season_told (Err refusal) = refusal_told refusal
 
-abbrev pub season_number : SeasonAnswer → ℕ
+abbrev pub season_number : Result ℕ Refusal → ℕ
 season_number answer = (season_told answer).number
 
 -- the table of what takes a season: 12, 12, 13, 18, and where it is not refused what is told then

@@ -1,12 +1,10 @@
--- Theorems on seasons: statements only, with what they speak of. A season is any list of bytes; `checked_season` and `season_map` are the definitions that the contracts of the code cite, and `Holds` is
--- the paper's inequalities.
-use Rattle.std.specs.Prelude.{ℕ, ◌^◌, ◌<◌, ◌≡◌, true, false, List, ◌↔◌, ◌⊎◌, length}
+-- Theorems on seasons: statements only, with what they speak of. A season is any list of bytes; `checked_season` and `season_map` are the definitions that the contracts of the code cite, and `Holds` has a
+-- window's four inequalities.
+use Rattle.std.specs.Prelude.{ℕ, ◌^◌, ◌<◌, ◌≡◌, true, false, List, ◌↔◌, ◌⊎◌, length, Err, Ok}
 use Rattle.big_endian.specs.BigEndian.{byte_at}
 use Rattle.control_point.specs.declared.refusal.Refusal.TheVariants.{Clash, Shut}
-use Rattle.counted_file.specs.declared.FileCheck.TheVariants.{Valid, Refused as Invalid}
 use Rattle.season_window.specs.Theorems.{Holds, Ever, Together}
 use Rattle.season.specs.Season.{windows_at, window_of, window_count, season_length_right, days_wrong, season_version_right, checked_season, season_map}
-use Rattle.season.specs.declared.SeasonAnswer.TheVariants.{Is, Refused}
 
 -- ---- 18 IS THE EXISTENCE
 -- past both 12 and 13
@@ -20,30 +18,30 @@ Clashing season n =
 
 -- A season is refused 18 exactly where it is past 12 and 13, and two of its windows hold in some common minute or one can hold in none.
 abbrev pub ClashIsExistence : Type 0
-ClashIsExistence = (season : List ℕ) → (checked_season season ≡ Invalid Clash) ↔ (Readable season × Clashing season (window_count season))
+ClashIsExistence = (season : List ℕ) → (checked_season season ≡ Err Clash) ↔ (Readable season × Clashing season (window_count season))
 
 -- ---- OF AN ACCEPTED SEASON
 -- At each minute at most one window holds.
 abbrev pub OneHolds : Type 0
 OneHolds =
-    (season : List ℕ) (n : ℕ) → checked_season season ≡ Valid n
+    (season : List ℕ) (n : ℕ) → checked_season season ≡ Ok n
     → (m i j : ℕ) → m < 2 ^ 32 → i < n → j < n → Holds (window_of season i) m → Holds (window_of season j) m → i ≡ j
 
 -- Every window holds at some minute.
 abbrev pub EachHolds : Type 0
-EachHolds = (season : List ℕ) (n : ℕ) → checked_season season ≡ Valid n → (i : ℕ) → i < n → Ever (window_of season i)
+EachHolds = (season : List ℕ) (n : ℕ) → checked_season season ≡ Ok n → (i : ℕ) → i < n → Ever (window_of season i)
 
 -- The answer at a minute is a map number exactly where a window of that map holds,
 abbrev pub MapAnswered : Type 0
 MapAnswered =
-    (season : List ℕ) (n : ℕ) → checked_season season ≡ Valid n
-    → (m map : ℕ) → m < 2 ^ 32 → (season_map season m ≡ Is map) ↔ ((i : ℕ) × (i < n) × Holds (window_of season i) m × ((window_of season i).map ≡ map))
+    (season : List ℕ) (n : ℕ) → checked_season season ≡ Ok n
+    → (m map : ℕ) → m < 2 ^ 32 → (season_map season m ≡ Ok map) ↔ ((i : ℕ) × (i < n) × Holds (window_of season i) m × ((window_of season i).map ≡ map))
 
 -- and 19 exactly where none holds.
 abbrev pub ShutAnswered : Type 0
 ShutAnswered =
-    (season : List ℕ) (n : ℕ) → checked_season season ≡ Valid n
-    → (m : ℕ) → (season_map season m ≡ Refused Shut) ↔ ((i : ℕ) → i < n → Holds (window_of season i) m → ⊥)
+    (season : List ℕ) (n : ℕ) → checked_season season ≡ Ok n
+    → (m : ℕ) → (season_map season m ≡ Err Shut) ↔ ((i : ℕ) → i < n → Holds (window_of season i) m → ⊥)
 
 -- ---- THE ORDER OF THE WINDOWS IS NOT SEEN
 -- one season is another with its windows in another order: the same length, the same count and version, and each window of the one stands in the other once

@@ -7,7 +7,7 @@ ghost use Rattle.season.specs.Season.{most_windows, window_of, days_wrong, holds
 
 use big_endian::{after, byte_at, length_at, pair_at};
 use control_point::refusal::Refusal;
-use counted_file::{FileCheck, VERSION_AT, counted_right};
+use counted_file::{VERSION_AT, counted_right};
 use season_window::Window;
 
 const THE_VERSION: u8 = 1;
@@ -26,13 +26,6 @@ const MAP_IN: usize = 8;
 const FIRST_IN: usize = 9;
 
 const LAST_IN: usize = 11;
-
-#[derive(Clone, Copy)]
-pub enum SeasonAnswer {
-    // The map's number.
-    Is(u8),
-    Refused(Refusal),
-}
 
 // The window of a number, from 0.
 fn window_of(season: &[u8], n: usize) -> Window
@@ -59,14 +52,7 @@ fn days_wrong(season: &[u8], count: usize) -> bool
     requires { count ≤ most_windows }
     ensures { result ≡ days_wrong season.now count }
 {
-    let mut left = count;
-    while 0 < left {
-        left -= 1;
-        if window_of(season, left).past_day() {
-            return true;
-        }
-    }
-    false
+    (0..count).any(|n| window_of(season, n).past_day())
 }
 
 // Whether a window holds in some common minute with one of the first so many.
@@ -74,14 +60,7 @@ fn holds_with_one(season: &[u8], count: usize, window: Window) -> bool
     requires { count ≤ most_windows }
     ensures { result ≡ holds_with_one season.now count window }
 {
-    let mut left = count;
-    while 0 < left {
-        left -= 1;
-        if window.holds_with(window_of(season, left)) {
-            return true;
-        }
-    }
-    false
+    (0..count).any(|n| window.holds_with(window_of(season, n)))
 }
 
 // Whether, of the first so many windows, one can hold in no minute, or holds in some common minute with one before it.
@@ -89,64 +68,52 @@ fn clashes(season: &[u8], count: usize) -> bool
     requires { count ≤ most_windows }
     ensures { result ≡ clashes season.now count }
 {
-    let mut left = count;
-    while 0 < left {
-        left -= 1;
-        let window = window_of(season, left);
-        if !window.can_hold() {
-            return true;
-        }
-        if holds_with_one(season, left, window) {
-            return true;
-        }
-    }
-    false
+    (0..count).any(|n| {
+        let window = window_of(season, n);
+        !window.can_hold() || holds_with_one(season, n, window)
+    })
 }
 
 // A season's count of windows, or why it is refused.
-pub fn check_season(season: &[u8]) -> FileCheck
+pub fn check_season(season: &[u8]) -> Result<usize, Refusal>
     ensures is { result ≡ checked_season season.now }
     ensures told { file_told result ≡ season_table season.now }
 {
     if !counted_right(season, WINDOWS_AT, WINDOW_BYTES, MOST_WINDOWS) {
-        return FileCheck::Refused(Refusal::Length);
+        return Err(Refusal::Length);
     }
     let count = (season.len() - WINDOWS_AT) / WINDOW_BYTES;
     if days_wrong(season, count) {
-        return FileCheck::Refused(Refusal::Length);
+        return Err(Refusal::Length);
     }
     if byte_at(season, VERSION_AT) != THE_VERSION {
-        return FileCheck::Refused(Refusal::Version);
+        return Err(Refusal::Version);
     }
     if clashes(season, count) {
-        return FileCheck::Refused(Refusal::Clash);
+        return Err(Refusal::Clash);
     }
-    FileCheck::Valid(count)
+    Ok(count)
 }
 
 // The map of the window that holds at a minute, of the first so many.
-fn map_among(season: &[u8], minute: u32, count: usize) -> SeasonAnswer
+fn map_among(season: &[u8], minute: u32, count: usize) -> Result<u8, Refusal>
     requires { count ≤ most_windows }
     ensures { result ≡ map_among season.now minute count }
 {
-    let mut left = count;
-    while 0 < left {
-        left -= 1;
-        let window = window_of(season, left);
+    for n in (0..count).rev() {
+        let window = window_of(season, n);
         if window.holds(minute) {
-            return SeasonAnswer::Is(window.map);
+            return Ok(window.map);
         }
     }
-    SeasonAnswer::Refused(Refusal::Shut)
+    Err(Refusal::Shut)
 }
 
 // The map of a season at a minute, or why there is none.
-pub fn season_map(season: &[u8], minute: u32) -> SeasonAnswer
+pub fn season_map(season: &[u8], minute: u32) -> Result<u8, Refusal>
     ensures is { result ≡ season_map season.now minute }
     ensures told { season_told result ≡ season_map_table season.now minute }
 {
-    match check_season(season) {
-        FileCheck::Valid(count) => map_among(season, minute, count),
-        FileCheck::Refused(refusal) => SeasonAnswer::Refused(refusal),
-    }
+    let count = check_season(season)?;
+    map_among(season, minute, count)
 }

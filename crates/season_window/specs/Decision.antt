@@ -1,5 +1,5 @@
 -- How code decides in constant time whether windows hold in some minute: two hold together where the part that they share can hold, and a window can hold where the first minute of
--- its part of the day, from its opening on, comes before its closing. That this is right is proved in specs/DecisionLaws.antt.
+-- its part of the day, from its opening on, comes before its closing. That this is right is proved in proofs/DecisionLaws.antt.
 use Rattle.std.specs.Prelude.{ℕ, ◌+◌, ◌-◌, ◌%◌, min, max, Bool, cond, ◌&&◌, ltb}
 use Rattle.season_window.specs.Window.{day_minutes}
 use Rattle.season_window.specs.declared.Window.{Window}

@@ -4,7 +4,7 @@ use Rattle.season_window.specs.Decision.{common, decided}
 use Rattle.season_window.specs.Window.{day_minutes, holds_at, can_hold, hold_together}
 use Rattle.season_window.specs.declared.Window.{Window}
 
--- a window holds at minute m: the paper's inequalities
+-- a window holds at minute m, by its inequalities
 pub record Holds (w : Window) (m : ℕ) : Type 0 where
   pub opened : w.opening ≤ m
   pub unclosed : m < w.closing

@@ -1,7 +1,7 @@
 // A window of a season: the minutes at which a map is to be used. Minutes of the season and of the day are numbers of 32 bits.
 #![tactic(auto)]
 
-ghost use Rattle.std.specs.Prelude.{◌≡◌, min, max};
+ghost use Rattle.std.specs.Prelude.{◌≡◌};
 ghost use Rattle.season_window.specs.Decision.{common, first_minute};
 ghost use Rattle.season_window.specs.Window.{holds_at, can_hold, hold_together, past_day};
 
@@ -17,31 +17,19 @@ pub struct Window {
     pub last: u32,
 }
 
-fn later(a: u32, b: u32) -> u32
-    ensures { result ≡ max a b }
-{
-    if a < b { b } else { a }
-}
-
-fn earlier(a: u32, b: u32) -> u32
-    ensures { result ≡ min a b }
-{
-    if a < b { a } else { b }
-}
-
 // The first minute from `opening` on that is one of the day's part, which is not empty. It may have more than 32 bits.
 fn first_minute(opening: u32, first: u32, last: u32) -> u64
     ensures { result ≡ first_minute opening first last }
 {
-    let from = opening as u64;
+    let from = u64::from(opening);
     let day = opening % DAY_MINUTES;
     if day < first {
-        return from + ((first - day) as u64);
+        return from + u64::from(first - day);
     }
     if day < last {
         return from;
     }
-    from + ((DAY_MINUTES - day) as u64) + (first as u64)
+    from + u64::from(DAY_MINUTES - day) + u64::from(first)
 }
 
 impl Window {
@@ -53,43 +41,33 @@ impl Window {
     }
 
     // Whether it holds at a minute.
+    #[tactic(auto, unfolding(crate::specs::Window::holds_at))]
     pub fn holds(self, minute: u32) -> bool
         ensures { result ≡ holds_at self minute }
     {
-        if minute < self.opening {
-            return false;
-        }
-        if self.closing <= minute {
-            return false;
-        }
         let day = minute % DAY_MINUTES;
-        if day < self.first {
-            return false;
-        }
-        day < self.last
+        (self.opening..self.closing).contains(&minute) && (self.first..self.last).contains(&day)
     }
 
     // Whether it can hold in some minute.
     pub fn can_hold(self) -> bool
         ensures { result ≡ can_hold self }
     {
-        let last = earlier(self.last, DAY_MINUTES);
-        if last <= self.first {
-            return false;
-        }
-        first_minute(self.opening, self.first, last) < self.closing as u64
+        let last = self.last.min(DAY_MINUTES);
+        self.first < last && first_minute(self.opening, self.first, last) < u64::from(self.closing)
     }
 
     // The part of it in which another holds too.
+    #[tactic(auto, unfolding(crate::specs::Decision::common))]
     fn common(self, other: Window) -> Window
         ensures { result ≡ common self other }
     {
         Window {
-            opening: later(self.opening, other.opening),
-            closing: earlier(self.closing, other.closing),
+            opening: self.opening.max(other.opening),
+            closing: self.closing.min(other.closing),
             map: self.map,
-            first: later(self.first, other.first),
-            last: earlier(self.last, other.last),
+            first: self.first.max(other.first),
+            last: self.last.min(other.last),
         }
     }
 

@@ -1,7 +1,6 @@
 -- The value of what the arrays hold is that of the map (`LendingIsSubs`), and a set-point rests on the value and the place alone.
-use Rattle.std.specs.Prelude.{◌≡◌, refl, Float}
+use Rattle.std.specs.Prelude.{◌≡◌, refl, Float, Result, ⊤}
 use Rattle.std.proofs.Common.{sym, ap, ◌∙◌}
-use Rattle.control_point.specs.declared.refusal.Outcome.{Outcome}
 use Rattle.surface.specs.Evaluation.{value_of, answer_by, with_knots, subs_of}
 use Rattle.surface.specs.SetPoint.{weighed}
 use Rattle.surface.proofs.SetPointLaws.{both_set_points}
@@ -9,12 +8,13 @@ use Rattle.surface.specs.declared.evaluation.Evaluated.{Evaluated}
 use Rattle.lent_surface.specs.Lent.{LentArrays, held_by, lend_of}
 use Rattle.lent_surface.proofs.LentIsSubsProof.{lending_is_subs}
 use Rattle.set_point.specs.LentSetPoints.{LentSetPoints}
+use Rattle.control_point.specs.declared.refusal.Refusal.{Refusal}
 
 -- what arrays hold keeps its knots
-held_answer : (f : Float) (arrays : LentArrays) (s t : Float) (outcome : Outcome) → outcome ≡ (with_knots f (held_by arrays)).outcome
+held_answer : (f : Float) (arrays : LentArrays) (s t : Float) (outcome : Result ⊤ Refusal) → outcome ≡ (with_knots f (held_by arrays)).outcome
     → answer_by outcome (value_of (held_by arrays) s t) ≡ (subs_of f (held_by arrays) s t).answer
 unfolding subs_of with_knots
-held_answer f arrays s t outcome is = ap (λ (o : Outcome). answer_by o (value_of (held_by arrays) s t)) is
+held_answer f arrays s t outcome is = ap (λ (o : Result ⊤ Refusal). answer_by o (value_of (held_by arrays) s t)) is
 
 pub lent_set_points : LentSetPoints
 unfolding with_knots

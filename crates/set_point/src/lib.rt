@@ -11,7 +11,7 @@ use control_point::refusal::Refusal;
 use evaluation::evaluation::subs;
 use lent_surface::lent_value;
 use set_point_check::{on_map, weighed, where_weighty};
-use surface::evaluation::{Evaluated, EvaluationAnswer};
+use surface::evaluation::{Evaluated, Evaluation};
 use t_mesh::t_mesh::Tmesh;
 
 // At (s, t). Off the map nothing is evaluated, and the map comes back as it was.
@@ -21,7 +21,7 @@ pub fn set_point(map: Tmesh, s: f64, t: f64) -> Evaluated
 {
     if !on_map(s, t) {
         return Evaluated {
-            answer: EvaluationAnswer::Refused(Refusal::OffMap),
+            answer: Err(Refusal::OffMap),
             map,
         };
     }
@@ -42,12 +42,12 @@ pub fn lent_set_point<'a>(
     listed: &'a [bool; 128],
     s: f64,
     t: f64,
-) -> EvaluationAnswer
+) -> Result<Evaluation, Refusal>
     ensures is { result ≡ (set_point millionth (held_map across.now upwards.now places.now listed.now) s t).answer }
     ensures told { evaluation_told result ≡ set_point_table millionth (held_map across.now upwards.now places.now listed.now) s t }
 {
     if !on_map(s, t) {
-        return EvaluationAnswer::Refused(Refusal::OffMap);
+        return Err(Refusal::OffMap);
     }
     where_weighty(lent_value(across, upwards, places, listed, s, t))
 }

@@ -7,7 +7,7 @@ ghost use Rattle.surface.specs.SetPoint.{on_map, weighty, where_weighty, where_w
 
 use control_point::refusal::Refusal;
 use float64::in_unit;
-use surface::evaluation::{Evaluation, EvaluationAnswer};
+use surface::evaluation::Evaluation;
 
 // Whether (s, t) lies on the map: both from 0 to 1.
 pub fn on_map(s: f64, t: f64) -> bool
@@ -24,23 +24,23 @@ fn is_weighty(value: Evaluation) -> bool
 }
 
 // The value of an evaluation, refused unless its weight is positive and finite.
-pub fn where_weighty(value: Evaluation) -> EvaluationAnswer
+pub fn where_weighty(value: Evaluation) -> Result<Evaluation, Refusal>
     ensures is { result ≡ where_weighty value }
     ensures told { evaluation_told result ≡ where_weighty_table value }
 {
     if is_weighty(value) {
-        EvaluationAnswer::Is(value)
+        Ok(value)
     } else {
-        EvaluationAnswer::Refused(Refusal::NoWeight)
+        Err(Refusal::NoWeight)
     }
 }
 
 // The same of an evaluation's answer.
-pub fn weighed(answer: EvaluationAnswer) -> EvaluationAnswer
+pub fn weighed(answer: Result<Evaluation, Refusal>) -> Result<Evaluation, Refusal>
     ensures { result ≡ weighed answer }
 {
     match answer {
-        EvaluationAnswer::Is(value) => where_weighty(value),
-        EvaluationAnswer::Refused(refusal) => EvaluationAnswer::Refused(refusal),
+        Ok(value) => where_weighty(value),
+        Err(refusal) => Err(refusal),
     }
 }

@@ -1,7 +1,7 @@
 -- The theorems of Alike: no definition of insertion, knots, index or weight reads a position. A building fills each listed point's row, so what stood in it and what stands in
 -- the others makes no difference; and the index is that of the listing and the listed rows (KeptLaws), so it is the same where these are.
 use Prim.Native.Nat.{ℕ, zero, suc, ◌+◌, ◌<◌}
-use Rattle.std.specs.Prelude.{◌≡◌, Bool, cond, ◌&&◌, eqb, Float, length, get_or}
+use Rattle.std.specs.Prelude.{◌≡◌, Bool, cond, ◌&&◌, eqb, Float, length, get_or, Err, Ok, Result, ⊤}
 use Rattle.std.proofs.Math.Path.{refl, sym, ap, ap₂, subst}
 use Rattle.std.proofs.Common.{◌∙◌, arith, eqb-true, length-set, get_or-set_same, get_or-set_other}
 use Rattle.std.proofs.Math.Bool.{true, false}
@@ -12,8 +12,6 @@ use Rattle.std.specs.Float.Ieee.{lt}
 use Rattle.std.proofs.Math.ListN.{set}
 use Rattle.float64.specs.Literals.{zero_literal, one_literal}
 use Rattle.control_point.specs.Told.{Told, outcome_told}
-use Rattle.control_point.specs.declared.refusal.Outcome.{Outcome}
-use Rattle.control_point.specs.declared.refusal.Outcome.TheVariants.{Done, Refused as NotBuilt}
 use Rattle.control_point.specs.declared.refusal.Refusal.TheVariants.{NoWeight}
 use Rattle.control_point.specs.declared.t_mesh_direction.TmeshDirection.{TmeshDirection}
 use Rattle.store.specs.declared.store.Store.{Store}
@@ -27,8 +25,7 @@ use Rattle.grid_index.specs.declared.Cell.{Cell}
 use Rattle.grid_index.specs.declared.Index.{Index}
 use Rattle.insertion.specs.Insert.{insert_told, is_refused, insert_point}
 use Rattle.insertion.specs.Withdrawal.{is_withdrawn}
-use Rattle.insertion.specs.declared.insertion.InsertAnswer.{InsertAnswer}
-use Rattle.insertion.specs.declared.insertion.InsertAnswer.TheVariants.{Done as Added, Torn, Refused as NotAdded}
+use Rattle.insertion.specs.declared.insertion.Insertion.TheVariants.{Done as Added, Torn}
 use Rattle.insertion.specs.declared.insertion.Inserted.{Inserted}
 use Rattle.t_mesh.specs.Insertion.{after_insertion, answered, add_control_point, added_by, add_by_rule}
 use Rattle.t_mesh.specs.Tmesh.{unpulled, no_place, place_under, pull_of, store_of, is_listed, new_tmesh}
@@ -45,8 +42,6 @@ use Rattle.surface.specs.SetPoint.{weighty, where_weighty, weighed, set_point}
 use Rattle.surface.proofs.SetPointLaws.{both_set_points}
 use Rattle.surface.proofs.EvaluationLaws.{ready_mesh, total_alike as totals-agree}
 use Rattle.surface.specs.declared.evaluation.Evaluation.{Evaluation}
-use Rattle.surface.specs.declared.evaluation.EvaluationAnswer.{EvaluationAnswer}
-use Rattle.surface.specs.declared.evaluation.EvaluationAnswer.TheVariants.{Is, Refused}
 use Rattle.cells.specs.Cells.{cell_told, cell_answer_by, cell_points}
 use Rattle.calls.specs.Calls.{insertion, evaluation, set_point_call, question, pulling}
 use Rattle.soundness.specs.Alike.{pulls_of, Alike, call_without, value_without, told_without, all_told_without, Same, AlikeMaps, AlikeLists}
@@ -54,6 +49,8 @@ use Rattle.soundness.proofs.InsertionLaws.{Grown}
 use Rattle.soundness.proofs.KeptLaws.{SoundMap, ready, map_call, map_fresh, every_map_sound}
 use Rattle.soundness.specs.MapCalls.{MapCall, entry, generate_knot_vectors_call, point_knot_vectors_call, cast_ray_call, direct, after_call, map_after_all}
 use Rattle.soundness.proofs.MapLaws.{listing_torn, insertion_grown}
+use Rattle.control_point.specs.declared.refusal.Refusal.{Refusal}
+use Rattle.insertion.specs.declared.insertion.Insertion.{Insertion}
 
 -- ---- the relation
 listed_too : (one other : Tmesh) → Alike one other → (n : ℕ) → is_listed one n ≡ is_listed other n
@@ -101,32 +98,32 @@ pulls_too one other alike n =
     sym (pull_at one.mesh.places n) ∙ ap (λ (pulls : List Float). get_or pulls n nan) alike.pulls ∙ pull_at other.mesh.places n
 
 -- ---- what is told of an evaluation, a set-point and a question, by the outcome of the building
-value_told_lem : (outcome : Outcome) (value also : Evaluation) → (outcome ≡ Done → value.weight ≡ also.weight)
+value_told_lem : (outcome : Result ⊤ Refusal) (value also : Evaluation) → (outcome ≡ Ok tt → value.weight ≡ also.weight)
     → value_without (answer_by outcome value) ≡ value_without (answer_by outcome also)
-value_told_lem Done value also same =
-    ap (λ (weight : Float). Is (record { x = zero_literal; y = zero_literal; z = zero_literal; weight = weight })) (same refl)
-value_told_lem (NotBuilt refusal) value also same = refl
+value_told_lem (Ok tt) value also same =
+    ap (λ (weight : Float). Ok (record { x = zero_literal; y = zero_literal; z = zero_literal; weight = weight })) (same refl)
+value_told_lem (Err refusal) value also same = refl
 
 -- a set-point is refused by the weight alone
-weighed_told : (outcome : Outcome) (value also : Evaluation) → (outcome ≡ Done → value.weight ≡ also.weight)
+weighed_told : (outcome : Result ⊤ Refusal) (value also : Evaluation) → (outcome ≡ Ok tt → value.weight ≡ also.weight)
     → value_without (weighed (answer_by outcome value)) ≡ value_without (weighed (answer_by outcome also))
 unfolding where_weighty
-weighed_told Done value also same =
-    ap (λ (weight : Float). value_without (cond (lt zero_literal weight && lt weight (inf false)) (Is value) (Refused NoWeight))) (same refl)
+weighed_told (Ok tt) value also same =
+    ap (λ (weight : Float). value_without (cond (lt zero_literal weight && lt weight (inf false)) (Ok value) (Err NoWeight))) (same refl)
     ∙ by_weight (weighty also)
   where
-    by_weight : (b : Bool) → value_without (cond b (Is value) (Refused NoWeight)) ≡ value_without (cond b (Is also) (Refused NoWeight))
-    by_weight true = value_told_lem Done value also same
+    by_weight : (b : Bool) → value_without (cond b (Ok value) (Err NoWeight)) ≡ value_without (cond b (Ok also) (Err NoWeight))
+    by_weight true = value_told_lem (Ok tt) value also same
     by_weight false = refl
-weighed_told (NotBuilt refusal) value also same = refl
+weighed_told (Err refusal) value also same = refl
 
-number_without : (answer : EvaluationAnswer) → evaluation_number (value_without answer) ≡ evaluation_number answer
-number_without (Is value) = refl
-number_without (Refused refusal) = refl
+number_without : (answer : Result Evaluation Refusal) → evaluation_number (value_without answer) ≡ evaluation_number answer
+number_without (Ok value) = refl
+number_without (Err refusal) = refl
 
-words_same : (outcome : Outcome) (words also : Cell) → (outcome ≡ Done → words ≡ also) → cell_answer_by outcome words ≡ cell_answer_by outcome also
-words_same Done words also same = ap (cell_answer_by Done) (same refl)
-words_same (NotBuilt refusal) words also same = refl
+words_same : (outcome : Result ⊤ Refusal) (words also : Cell) → (outcome ≡ Ok tt → words ≡ also) → cell_answer_by outcome words ≡ cell_answer_by outcome also
+words_same (Ok tt) words also same = ap (cell_answer_by (Ok tt)) (same refl)
+words_same (Err refusal) words also same = refl
 
 -- ---- two maps that are alike
 module _ (one other : Tmesh) (sound : SoundMap one) (sound' : SoundMap other) (alike : Alike one other) where
@@ -174,10 +171,10 @@ module _ (one other : Tmesh) (sound : SoundMap one) (sound' : SoundMap other) (a
 
   module _ (e : Float) where
     -- the row of n in both
-    in_both : (n : ℕ) (b : Bool) (outcome : Outcome) (own : PointKnots) (rows rows' : List PointKnots) → n < 128 → is_listed one n ≡ b → Agree n rows rows'
+    in_both : (n : ℕ) (b : Bool) (outcome : Result ⊤ Refusal) (own : PointKnots) (rows rows' : List PointKnots) → n < 128 → is_listed one n ≡ b → Agree n rows rows'
         → Both (n + 1) (cond b (in_row outcome own n rows) (all rows)) (cond b (in_row outcome own n rows') (all rows'))
-    in_both n true Done own rows rows' h is agree = filled n own rows rows' h agree
-    in_both n true (NotBuilt refusal) own rows rows' h is agree = refl
+    in_both n true (Ok tt) own rows rows' h is agree = filled n own rows rows' h agree
+    in_both n true (Err refusal) own rows rows' h is agree = refl
     in_both n false outcome own rows rows' h is agree = passed n rows rows' is agree
 
     row_too : (n : ℕ) (rows : List PointKnots) → with_row e one n rows ≡ with_row e other n rows
@@ -224,7 +221,7 @@ module _ (one other : Tmesh) (sound : SoundMap one) (sound' : SoundMap other) (a
     )
     keeping_alike (all rows) (none refusal) both = absurd both
     keeping_alike (none refusal) (all rows') both = absurd both
-    keeping_alike (none refusal) (none refusal') both = (ap NotBuilt both, alike)
+    keeping_alike (none refusal) (none refusal') both = (ap Err both, alike)
 
     generated_alike : AlikeBuilt (generate_knot_vectors e one) (generate_knot_vectors e other)
     unfolding generate_knot_vectors all_knots
@@ -237,12 +234,12 @@ module _ (one other : Tmesh) (sound : SoundMap one) (sound' : SoundMap other) (a
     unfolding with_knots
     ready_alike =
         subst
-        (λ (kept : Bool). AlikeBuilt (with_knots e one) (cond kept (record { outcome = Done; map = other }) (generate_knot_vectors e other)))
+        (λ (kept : Bool). AlikeBuilt (with_knots e one) (cond kept (record { outcome = Ok tt; map = other }) (generate_knot_vectors e other)))
         alike.kept (by_kept one.kept)
       where
         by_kept : (kept : Bool)
-            → AlikeBuilt (cond kept (record { outcome = Done; map = one }) (generate_knot_vectors e one))
-            (cond kept (record { outcome = Done; map = other }) (generate_knot_vectors e other))
+            → AlikeBuilt (cond kept (record { outcome = Ok tt; map = one }) (generate_knot_vectors e one))
+            (cond kept (record { outcome = Ok tt; map = other }) (generate_knot_vectors e other))
         by_kept true = (refl, alike)
         by_kept false = generated_alike
 
@@ -253,8 +250,8 @@ module _ (one other : Tmesh) (sound : SoundMap one) (sound' : SoundMap other) (a
     abbrev own' : Tmesh
     own' = (with_knots e other).map
 
-    module _ (done : (with_knots e one).outcome ≡ Done) where
-      done' : (with_knots e other).outcome ≡ Done
+    module _ (done : (with_knots e one).outcome ≡ Ok tt) where
+      done' : (with_knots e other).outcome ≡ Ok tt
       done' = sym ready_alike.0 ∙ done
 
       knots_alike : (n : ℕ) → is_listed own n ≡ true → knots_of own n ≡ knots_of own' n
@@ -277,7 +274,7 @@ module _ (one other : Tmesh) (sound : SoundMap one) (sound' : SoundMap other) (a
             totals-agree own own' (λ n _. listed_too own own' ready_alike.1 n) (weight_of own s t) (weight_of own' s t) (λ n _ listed. weight_alike n listed)
 
     -- ---- the answers of an evaluation, a set-point and a question
-    weighs : (s t : Float) → (with_knots e one).outcome ≡ Done → (value_of own s t).weight ≡ (value_of own' s t).weight
+    weighs : (s t : Float) → (with_knots e one).outcome ≡ Ok tt → (value_of own s t).weight ≡ (value_of own' s t).weight
     unfolding value_of
     weighs s t done = total_alike done s t
 
@@ -285,14 +282,14 @@ module _ (one other : Tmesh) (sound : SoundMap one) (sound' : SoundMap other) (a
     unfolding subs_of
     evaluated_alike s t =
         value_told_lem (with_knots e one).outcome (value_of own s t) (value_of own' s t) (weighs s t)
-        ∙ ap (λ (outcome : Outcome). value_without (answer_by outcome (value_of own' s t))) ready_alike.0
+        ∙ ap (λ (outcome : Result ⊤ Refusal). value_without (answer_by outcome (value_of own' s t))) ready_alike.0
 
     set_point_alike : (s t : Float) → value_without (set_point e one s t).answer ≡ value_without (set_point e other s t).answer
     unfolding subs_of
     set_point_alike s t =
         both_set_points e e one other s t (λ given given'. value_without given.answer ≡ value_without given'.answer)
         (weighed_told (with_knots e one).outcome (value_of own s t) (value_of own' s t) (weighs s t)
-        ∙ ap (λ (outcome : Outcome). value_without (weighed (answer_by outcome (value_of own' s t)))) ready_alike.0)
+        ∙ ap (λ (outcome : Result ⊤ Refusal). value_without (weighed (answer_by outcome (value_of own' s t)))) ready_alike.0)
         refl
 
     cell_alike : (cell : ℕ) → (cell_points e one cell).answer ≡ (cell_points e other cell).answer
@@ -300,7 +297,7 @@ module _ (one other : Tmesh) (sound : SoundMap one) (sound' : SoundMap other) (a
     cell_alike cell =
         words_same (with_knots e one).outcome (cell_of own.index cell) (cell_of own'.index cell)
         (λ done. ap (λ (index : Index). cell_of index cell) (index_alike done))
-        ∙ ap (λ (outcome : Outcome). cell_answer_by outcome (cell_of own'.index cell)) ready_alike.0
+        ∙ ap (λ (outcome : Result ⊤ Refusal). cell_answer_by outcome (cell_of own'.index cell)) ready_alike.0
 
     -- ---- an insertion
     module _ (con : ℕ) (d : TmeshDirection) (ratio : Float) where
@@ -320,11 +317,11 @@ module _ (one other : Tmesh) (sound : SoundMap one) (sound' : SoundMap other) (a
           ∙ ap₂ (λ (store : Store) (pulls : List Float). set pulls store.made one_literal) alike.store alike.pulls
           ∙ sym (pulls_with other.mesh.places (store_of other).made (unpulled position'))
 
-      by_answer : (position position' : Position) (answer : InsertAnswer) (store : Store) → (is_refused answer ≡ false → Grown (store_of one) store)
+      by_answer : (position position' : Position) (answer : Result Insertion Refusal) (store : Store) → (is_refused answer ≡ false → Grown (store_of one) store)
           → Alike (after_insertion one position answer store) (after_insertion other position' answer store)
-      by_answer position position' (Added opened inferred) store grown =
+      by_answer position position' (Ok (Added opened inferred)) store grown =
           record { store = refl; listing = placed_too true; pulls = unpulled_too position position'; kept = refl; knots = λ kept n listed. absurd (false≢true kept) }
-      by_answer position position' (Torn opened inferred) store grown =
+      by_answer position position' (Ok (Torn opened inferred)) store grown =
           record {
             store = refl;
             listing = placed_too false;
@@ -334,7 +331,7 @@ module _ (one other : Tmesh) (sound : SoundMap one) (sound' : SoundMap other) (a
                 alike.knots kept n
                 (ap (λ (all : List Bool). get_or all n false) (sym (listing_torn one sound.mesh position opened inferred store (grown refl))) ∙ listed);
           }
-      by_answer position position' (NotAdded refusal) store grown = alike
+      by_answer position position' (Err refusal) store grown = alike
 
       -- withdrawn both or neither
       by_withdrawn : (withdrawn : Bool) (after after' : Tmesh) → Alike after after' → Alike (cond withdrawn one after) (cond withdrawn other after')
@@ -367,9 +364,9 @@ module _ (one other : Tmesh) (sound : SoundMap one) (sound' : SoundMap other) (a
             ∙ ap (λ (pulls : List Float). set pulls n pull) alike.pulls
             ∙ sym (pulls_with other.mesh.places n (repulled (place_under other n) pull))
 
-        by_outcome : (outcome : Outcome) → AlikeSet (pulled_by outcome one n pull) (pulled_by outcome other n pull)
-        by_outcome Done = (refl, record { store = alike.store; listing = alike.listing; pulls = repulled_too; kept = alike.kept; knots = alike.knots })
-        by_outcome (NotBuilt refusal) = (refl, alike)
+        by_outcome : (outcome : Result ⊤ Refusal) → AlikeSet (pulled_by outcome one n pull) (pulled_by outcome other n pull)
+        by_outcome (Ok tt) = (refl, record { store = alike.store; listing = alike.listing; pulls = repulled_too; kept = alike.kept; knots = alike.knots })
+        by_outcome (Err refusal) = (refl, alike)
 
     -- ---- any call, the second time without its position
     told_alike : (call : MapCall) → told_without e one call ≡ told_without e other (call_without call)

@@ -1,10 +1,8 @@
 -- A direct call on a store unmakes no point.
-use Rattle.std.specs.Prelude.{ℕ, ◌≤◌, ltb, Float}
+use Rattle.std.specs.Prelude.{ℕ, ◌≤◌, ltb, Float, Err, Ok, Result, ⊤}
 use Rattle.std.proofs.Common.{arith}
 use Rattle.control_point.specs.Connect.{connectable}
 use Rattle.control_point.specs.Point.{side_of, is_border, is_made}
-use Rattle.control_point.specs.declared.refusal.Outcome.{Outcome}
-use Rattle.control_point.specs.declared.refusal.Outcome.TheVariants.{Done, Refused}
 use Rattle.control_point.specs.declared.t_mesh_direction.TmeshDirection.{TmeshDirection}
 use Rattle.control_point.specs.declared.t_mesh_control_point.Side.{Side}
 use Rattle.control_point.specs.declared.t_mesh_control_point.Side.TheVariants.{Link, Border, Opening}
@@ -13,6 +11,7 @@ use Rattle.mirror.specs.Calls.{Call, make_loose_call, connect, remove_connection
 use Rattle.store.specs.Store.{store_sides, store_point, linked, settled, opened, weighted, all_borders, make_loose, connect_points, remove_connection, remove_edge_condition, set_edge_con_weight, set_knot_coordinates}
 use Rattle.store.specs.declared.store.Changed.{Changed}
 use Rattle.store.specs.declared.store.Store.{Store}
+use Rattle.control_point.specs.declared.refusal.Refusal.{Refusal}
 
 module _ (store : Store) where
   abbrev Grows : Changed → Type 0
@@ -21,9 +20,9 @@ module _ (store : Store) where
   same : store.made ≤ store.made
   same = omega arith
 
-  by_outcome : (outcome : Outcome) (new : Store) → store.made ≤ new.made → Grows (settled outcome new store)
-  by_outcome Done new more = more
-  by_outcome (Refused refusal) new more = same
+  by_outcome : (outcome : Result ⊤ Refusal) (new : Store) → store.made ≤ new.made → Grows (settled outcome new store)
+  by_outcome (Ok tt) new more = more
+  by_outcome (Err refusal) new more = same
 
   by_opened : (n : ℕ) (d : TmeshDirection) (side : Side) → Grows (opened store n d side)
   by_opened n d (Link m interval) = cond_case (is_made store.made m) Grows _ _ (λ _. same) (λ _. same)

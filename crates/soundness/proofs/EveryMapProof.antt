@@ -1,15 +1,12 @@
 -- Every list leaves a sound mesh, because a fresh one is sound and each call keeps it so; the theorems are what a sound mesh says of a call.
-use Rattle.std.specs.Prelude.{ℕ, ◌≡◌, refl, Bool, true, false, not, ◌||◌, List, [], ◌∷◌, T, eqb, Float}
+use Rattle.std.specs.Prelude.{ℕ, ◌≡◌, refl, Bool, true, false, not, ◌||◌, List, [], ◌∷◌, T, eqb, Float, Err, Ok, Result}
 use Rattle.std.proofs.Common.{sym, ap, ◌∙◌, subst, true≢false, inl, inr, eqb→eq}
 use Rattle.control_point.specs.Refusal.{refusal_number}
 use Rattle.control_point.specs.declared.refusal.Refusal.{Refusal}
 use Rattle.surface.specs.Evaluation.{evaluation_number, subs_of}
 use Rattle.surface.specs.SetPoint.{on_map, weighty, where_weighty, weighed, set_point}
 use Rattle.surface.proofs.SetPointLaws.{set_point_case}
-use Rattle.surface.specs.declared.evaluation.EvaluationAnswer.{EvaluationAnswer}
-use Rattle.surface.specs.declared.evaluation.EvaluationAnswer.TheVariants.{Is, Refused as NoValue}
 use Rattle.cells.specs.Cells.{cell_points}
-use Rattle.cells.specs.declared.CellAnswer.TheVariants.{Refused as NoWords}
 use Rattle.counting.proofs.BoolLaws.{cond_case, or_case}
 use Rattle.t_mesh.specs.Tmesh.{new_tmesh}
 use Rattle.t_mesh.specs.declared.t_mesh.Tmesh.{Tmesh}
@@ -17,6 +14,7 @@ use Rattle.soundness.specs.MapCalls.{MapCall, after_call, map_after_all}
 use Rattle.soundness.proofs.FreshLaws.{sound_fresh}
 use Rattle.soundness.proofs.MapLaws.{SoundMesh, KnownEvaluation, KnownQuestion, insertion_places, evaluation_known, question_known, sound_call, listing_call}
 use Rattle.soundness.specs.Theorems.{EveryMap, OneOf, EveryMapMirrored, ListedIsMade, ListingGrows, PlacingConnects, EvaluationRefusals, SetPointNumbers, QuestionRefusals}
+use Rattle.surface.specs.declared.evaluation.Evaluation.{Evaluation}
 
 sound_list : (e : Float) (calls : List MapCall) (map : Tmesh) → SoundMesh map.mesh → SoundMesh (map_after_all e map calls).mesh
 unfolding map_after_all
@@ -52,7 +50,7 @@ of_three n h =
     same : (m : ℕ) → eqb n m ≡ true → n ≡ m
     same m a = eqb→eq n m (subst T (sym a) tt)
 
-evaluation_refused : (map : Tmesh) → SoundMesh map.mesh → (e s t : Float) (refusal : Refusal) → (subs_of e map s t).answer ≡ NoValue refusal
+evaluation_refused : (map : Tmesh) → SoundMesh map.mesh → (e s t : Float) (refusal : Refusal) → (subs_of e map s t).answer ≡ Err refusal
     → OneOf (refusal_number refusal) (3 ∷ (4 ∷ (9 ∷ [])))
 evaluation_refused map sound e s t refusal is = of_three (refusal_number refusal) (subst KnownEvaluation is (evaluation_known map sound e s t))
 
@@ -61,20 +59,20 @@ evaluation_refusals = of_sound _ evaluation_refused
 
 -- ---- a set-point
 -- its number is one of six, and 20 or not
-abbrev Numbered : Bool → EvaluationAnswer → Type 0
+abbrev Numbered : Bool → Result Evaluation Refusal → Type 0
 Numbered off answer = OneOf (evaluation_number answer) (0 ∷ (3 ∷ (4 ∷ (9 ∷ (15 ∷ (20 ∷ [])))))) × (eqb (evaluation_number answer) 20 ≡ off)
 
 -- an evaluation's refusal, by one of its numbers
-of_evaluation : (refusal : Refusal) → OneOf (refusal_number refusal) (3 ∷ (4 ∷ (9 ∷ []))) → Numbered false (NoValue refusal)
+of_evaluation : (refusal : Refusal) → OneOf (refusal_number refusal) (3 ∷ (4 ∷ (9 ∷ []))) → Numbered false (Err refusal)
 of_evaluation refusal (inl same) = (inr (inl same), ap (λ (m : ℕ). eqb m 20) same)
 of_evaluation refusal (inr (inl same)) = (inr (inr (inl same)), ap (λ (m : ℕ). eqb m 20) same)
 of_evaluation refusal (inr (inr (inl same))) = (inr (inr (inr (inl same))), ap (λ (m : ℕ). eqb m 20) same)
 of_evaluation refusal (inr (inr (inr none))) = elim none [ ]
 
-weighed_numbered : (answer : EvaluationAnswer) → KnownEvaluation answer → Numbered false (weighed answer)
+weighed_numbered : (answer : Result Evaluation Refusal) → KnownEvaluation answer → Numbered false (weighed answer)
 unfolding where_weighty
-weighed_numbered (Is value) known = cond_case (weighty value) (Numbered false) _ _ (λ _. (inl refl, refl)) (λ _. (inr (inr (inr (inr (inl refl)))), refl))
-weighed_numbered (NoValue refusal) known = of_evaluation refusal (of_three (refusal_number refusal) known)
+weighed_numbered (Ok value) known = cond_case (weighty value) (Numbered false) _ _ (λ _. (inl refl, refl)) (λ _. (inr (inr (inr (inr (inl refl)))), refl))
+weighed_numbered (Err refusal) known = of_evaluation refusal (of_three (refusal_number refusal) known)
 
 set_point_numbered : (map : Tmesh) → SoundMesh map.mesh → (e s t : Float) → Numbered (not (on_map s t)) (set_point e map s t).answer
 set_point_numbered map sound e s t =
@@ -85,7 +83,7 @@ set_point_numbered map sound e s t =
 pub set_point_numbers : SetPointNumbers
 set_point_numbers = of_sound _ set_point_numbered
 
-question_refused : (map : Tmesh) → SoundMesh map.mesh → (e : Float) (cell : ℕ) (refusal : Refusal) → (cell_points e map cell).answer ≡ NoWords refusal
+question_refused : (map : Tmesh) → SoundMesh map.mesh → (e : Float) (cell : ℕ) (refusal : Refusal) → (cell_points e map cell).answer ≡ Err refusal
     → OneOf (refusal_number refusal) (3 ∷ (4 ∷ (9 ∷ [])))
 question_refused map sound e cell refusal is = of_three (refusal_number refusal) (subst KnownQuestion is (question_known map sound e cell))
 

@@ -1,6 +1,6 @@
 -- Laws of an insertion into a sound store: refused, it is not by 11; passed, its connects are done and it leaves a sound store of one point
 -- more.
-use Rattle.std.specs.Prelude.{ℕ, ◌<◌, ◌+◌, ◌≡◌, refl, Bool, true, false, ◌||◌, ltb, Float}
+use Rattle.std.specs.Prelude.{ℕ, ◌<◌, ◌+◌, ◌≡◌, refl, Bool, true, false, ◌||◌, ltb, Float, Err, Ok, Result}
 use Rattle.std.proofs.Common.{sym, ◌∙◌, true≢false, arith, ltb-true}
 use Rattle.std.proofs.Math.Path.{ap, subst}
 use Rattle.std.specs.Float.Ieee.{binary64, sub}
@@ -11,8 +11,6 @@ use Rattle.control_point.proofs.PointLaws.{made_is_made}
 use Rattle.control_point.specs.Small.{small}
 use Rattle.control_point.specs.declared.refusal.Refusal.{Refusal}
 use Rattle.control_point.specs.declared.refusal.Refusal.TheVariants.{Ratio, Foreign, OpenSide, BorderSide, Interval, Full}
-use Rattle.control_point.specs.declared.sides.SideAnswer.{SideAnswer}
-use Rattle.control_point.specs.declared.sides.SideAnswer.TheVariants.{Is}
 use Rattle.control_point.specs.declared.t_mesh_direction.TmeshDirection.{TmeshDirection}
 use Rattle.control_point.specs.declared.t_mesh_direction.TmeshDirection.TheVariants.{Up, Right, Down, Left}
 use Rattle.control_point.specs.declared.t_mesh_control_point.Side.{Side}
@@ -23,20 +21,20 @@ use Rattle.counting.proofs.BoolLaws.{both_ways, cond_case}
 use Rattle.mirror.specs.Mirror.{MirrorOf, Sound}
 use Rattle.insertion.specs.Insert.{is_refused, checked_intervals, checked_facing, checked_side, checked, placed, sought, tears, counted_answer, first_side, with_first, second_side, sided, passed, insert_point}
 use Rattle.insertion.proofs.InsertLaws.{MayJoin, first_joins, second_joins}
-use Rattle.insertion.specs.declared.insertion.Checked.{Checked}
-use Rattle.insertion.specs.declared.insertion.InsertAnswer.{InsertAnswer}
-use Rattle.insertion.specs.declared.insertion.InsertAnswer.TheVariants.{Done, Torn, Refused}
+use Rattle.insertion.specs.declared.insertion.Insertion.TheVariants.{Done, Torn}
 use Rattle.insertion.specs.declared.insertion.Inserted.{Inserted}
 use Rattle.soundness.proofs.AcrossLaws.{Sided, joins_connects, known_sought, sided_new}
 use Rattle.soundness.proofs.KnownLaws.{Known, KnownFound}
 use Rattle.soundness.proofs.PlacingLaws.{Across, across_clockwise, across_anti, Placed, near_succeeds, far_succeeds, placed_sound}
 use Rattle.soundness.specs.Theorems.{Connects, Placing, Seeking}
+use Rattle.control_point.specs.declared.t_mesh_control_point.LinkEnd.{LinkEnd}
+use Rattle.insertion.specs.declared.insertion.Insertion.{Insertion}
 
 -- an answer that is not 11
-abbrev pub KnownAnswer : InsertAnswer → Type 0
-KnownAnswer (Done opened inferred) = Unit {0}
-KnownAnswer (Torn opened inferred) = Unit {0}
-KnownAnswer (Refused refusal) = Known refusal
+abbrev pub KnownAnswer : Result Insertion Refusal → Type 0
+KnownAnswer (Ok (Done opened inferred)) = Unit {0}
+KnownAnswer (Ok (Torn opened inferred)) = Unit {0}
+KnownAnswer (Err refusal) = Known refusal
 
 -- a sound store of one point more
 pub record Grown (store after : Store) : Type 0 where
@@ -120,18 +118,18 @@ answer_known e store con p d = known_counted (tears (first_side e store con p d)
 -- what holds of every refusal but 11, and of every point placed in a link of a made point, holds of an insertion
 module _ (e : Float) (store : Store) (sound : Sound store) (listed : Bool) (con : ℕ) (d : TmeshDirection) (ratio : Float)
     (listed_made : listed ≡ true → con < store.made) (Holds : Inserted → Type 0)
-    (refuses : (refusal : Refusal) → Known refusal → Holds (record { answer = Refused refusal; store = store }))
+    (refuses : (refusal : Refusal) → Known refusal → Holds (record { answer = Err refusal; store = store }))
     (places : (other : ℕ) (interval : Float) → con < store.made → store_sides store con d ≡ Link other interval → store.made < 128
     → Holds (sided e (placed store con other d interval ratio) con store.made d))
   where
-    read_made : (n : ℕ) (f : TmeshDirection) → n < store.made → read_side store n f ≡ Is (store_sides store n f)
+    read_made : (n : ℕ) (f : TmeshDirection) → n < store.made → read_side store n f ≡ Ok (store_sides store n f)
     read_made n f h = rw (made_is_made store.made n sound.fits h)
 
     -- the facing side of the point at the other end, and what follows the checks
-    abbrev facing : ℕ → SideAnswer
+    abbrev facing : ℕ → Result Side Refusal
     facing other = read_side store other (flip_of d)
 
-    abbrev HoldsPassed : Checked → Type 0
+    abbrev HoldsPassed : Result LinkEnd Refusal → Type 0
     HoldsPassed checks = Holds (passed store checks (λ other interval. sided e (placed store con other d interval ratio) con store.made d))
 
     -- the two stored intervals are one
@@ -139,8 +137,8 @@ module _ (e : Float) (store : Store) (sound : Sound store) (listed : Bool) (con 
         → HoldsPassed (checked_facing e store.made other interval (facing other))
     unfolding checked_intervals
     by_link other interval con_made link =
-        subst (λ (side : SideAnswer). HoldsPassed (checked_facing e store.made other interval side))
-        (sym (read_made other (flip_of d) mirror.leads ∙ ap Is mirror.faces))
+        subst (λ (side : Result Side Refusal). HoldsPassed (checked_facing e store.made other interval side))
+        (sym (read_made other (flip_of d) mirror.leads ∙ ap Ok mirror.faces))
         (cond_case (small e (sub binary64 interval interval)) HoldsPassed _ _
         (λ s.
         cond_case (ltb store.made 128) HoldsPassed _ _
@@ -151,7 +149,7 @@ module _ (e : Float) (store : Store) (sound : Sound store) (listed : Bool) (con 
         mirror : MirrorOf store.made (store_sides store) con d other interval
         mirror = sound.mirrored con d other interval con_made link
 
-    by_side : con < store.made → (side : Side) → store_sides store con d ≡ side → HoldsPassed (checked_side e store.made (Is side) facing)
+    by_side : con < store.made → (side : Side) → store_sides store con d ≡ side → HoldsPassed (checked_side e store.made (Ok side) facing)
     by_side con_made (Link other interval) link = by_link other interval con_made link
     by_side con_made (Border weight) link = refuses BorderSide refl
     by_side con_made Opening link = refuses OpenSide refl
@@ -163,7 +161,7 @@ module _ (e : Float) (store : Store) (sound : Sound store) (listed : Bool) (con 
         (λ u.
         cond_case listed HoldsPassed _ _
         (λ l.
-        subst (λ (side : SideAnswer). HoldsPassed (checked_side e store.made side facing))
+        subst (λ (side : Result Side Refusal). HoldsPassed (checked_side e store.made side facing))
         (sym (read_made con d (listed_made l)))
         (by_side (listed_made l) (store_sides store con d) refl))
         (λ l. refuses Foreign refl))
@@ -218,7 +216,7 @@ module _ (e : Float) (store : Store) (sound : Sound store) (con : ℕ) (d : Tmes
       sides : BothSided e after con store.made d
       sides = both_sided e after con store.made d stands.sound (let h = stands.made_is in omega arith) (λ f across. ap is_link (stands.across f across))
 
-  inserts_refused : (refusal : Refusal) → Known refusal → Inserts e store con d ratio (record { answer = Refused refusal; store = store })
+  inserts_refused : (refusal : Refusal) → Known refusal → Inserts e store con d ratio (record { answer = Err refusal; store = store })
   inserts_refused refusal known =
       record { known = known; seeking = λ passes. both_ways true refl passes; placing = λ passes. both_ways true refl passes; grown = λ passes. both_ways true refl passes }
 

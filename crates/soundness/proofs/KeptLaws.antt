@@ -1,21 +1,19 @@
 -- What holds of a map through every call, of the knots that it keeps and of their index. The index kept is that of the listing and of the knots kept: an insertion that is done drops
 -- both; one that is torn changes neither them nor the listing, since its point was not listed; and what builds the knots builds the index. There are 128 rows of knots. The first
 -- knot of each is 0.0 or a difference, and past the end it is taken for a NaN, so it is an f64, whatever coordinates the points have.
-use Rattle.std.specs.Prelude.{ℕ, ◌≡◌, refl, Bool, true, false, List, [], ◌∷◌, Float, length, set}
+use Rattle.std.specs.Prelude.{ℕ, ◌≡◌, refl, Bool, true, false, List, [], ◌∷◌, Float, length, set, Err, Ok, Result}
 use Rattle.std.proofs.Common.{sym, ap, ◌∙◌, length-set}
 use Rattle.std.proofs.lemmas.Bool.{false≢true}
 use Rattle.std.specs.Float.{binary64}
 use Rattle.std.specs.Float.Ieee.Bits.{of_bits-fits}
 use Rattle.std.specs.Float.Ieee.Fits.{nan-fits, sub-fits}
 use Rattle.control_point.specs.Point.{is_made}
-use Rattle.control_point.specs.declared.refusal.Outcome.TheVariants.{Done}
 use Rattle.control_point.specs.declared.t_mesh_direction.TmeshDirection.{TmeshDirection}
 use Rattle.control_point.specs.declared.t_mesh_direction.TmeshDirection.TheVariants.{Up, Right, Down, Left}
 use Rattle.grid.specs.Reach.{StartsF64}
 use Rattle.grid_index.specs.Index.{no_knots, knots_in, index_of}
 use Rattle.insertion.specs.Insert.{is_refused, insert_point}
-use Rattle.insertion.specs.declared.insertion.InsertAnswer.{InsertAnswer}
-use Rattle.insertion.specs.declared.insertion.InsertAnswer.TheVariants.{Done as Added, Torn, Refused as NotAdded}
+use Rattle.insertion.specs.declared.insertion.Insertion.TheVariants.{Done as Added, Torn}
 use Rattle.knot_vectors.specs.Knots.{AllKnots, all, none, all_knots, keeping, generate_knot_vectors}
 use Rattle.knot_vectors.specs.declared.knots.Generated.{Generated}
 use Rattle.counting.proofs.BoolLaws.{cond_case}
@@ -43,6 +41,8 @@ use Rattle.soundness.proofs.InsertionLaws.{Grown}
 use Rattle.soundness.specs.MapCalls.{MapCall, entry, generate_knot_vectors_call, point_knot_vectors_call, cast_ray_call, direct, after_call, map_after_all}
 use Rattle.soundness.proofs.MapLaws.{SoundMesh, listing_torn, insertion_grown, insertion_sound, repulled_sound, sound_call}
 use Rattle.soundness.specs.Theorems.{EveryMap}
+use Rattle.control_point.specs.declared.refusal.Refusal.{Refusal}
+use Rattle.insertion.specs.declared.insertion.Insertion.{Insertion}
 
 -- ---- rows of knots
 pub record SoundRows (rows : List PointKnots) : Type 0 where
@@ -100,13 +100,13 @@ pub record SoundMap (map : Tmesh) : Type 0 where
 
 module _ (map : Tmesh) (sound : SoundMap map) where
   -- ---- an insertion
-  after_insertion_lem : (position : Position) (answer : InsertAnswer) (store : Store) → (is_refused answer ≡ false → Grown (store_of map) store)
+  after_insertion_lem : (position : Position) (answer : Result Insertion Refusal) (store : Store) → (is_refused answer ≡ false → Grown (store_of map) store)
       → Indexed (after_insertion map position answer store)
-  after_insertion_lem position (Added opened inferred) store grown kept = absurd (false≢true kept)
-  after_insertion_lem position (Torn opened inferred) store grown kept =
+  after_insertion_lem position (Ok (Added opened inferred)) store grown kept = absurd (false≢true kept)
+  after_insertion_lem position (Ok (Torn opened inferred)) store grown kept =
       sound.index kept
       ∙ ap (λ (listed : List Bool). index_of listed map.knots) (sym (listing_torn map sound.mesh position opened inferred store (grown refl)))
-  after_insertion_lem position (NotAdded refusal) store grown kept = sound.index kept
+  after_insertion_lem position (Err refusal) store grown kept = sound.index kept
 
   inserted_map : (e : Float) (con : ℕ) (d : TmeshDirection) (ratio : Float) (position : Position) → SoundMap (add_control_point e map con d ratio position).map
   unfolding add_control_point
@@ -121,7 +121,7 @@ module _ (map : Tmesh) (sound : SoundMap map) where
   -- ---- knots kept or built
   -- the map, and where it is not refused, that its knots are kept
   abbrev Ready : Generated → Type 0
-  Ready generated = SoundMap generated.map × (generated.outcome ≡ Done → generated.map.kept ≡ true)
+  Ready generated = SoundMap generated.map × (generated.outcome ≡ Ok tt → generated.map.kept ≡ true)
 
   keeping_ready : (rows : AllKnots) → OfRows SoundRows rows → Ready (keeping map rows)
   keeping_ready (all rows) h = (record { mesh = sound.mesh; rows = h; index = λ _. refl }, λ _. refl)

@@ -1,6 +1,6 @@
 -- The knots of a point pass: on these maps every interval and every weight is a NaN or not negative, and so is every entry of a ray; a step up by
 -- such an entry gives a NaN or a knot that is not below, a step down one that is not above.
-use Rattle.std.specs.Prelude.{ℕ, Bool, true, not, ◌&&◌, List, [], ◌∷◌, T, Float, replicate}
+use Rattle.std.specs.Prelude.{ℕ, Bool, true, not, ◌&&◌, List, [], ◌∷◌, T, Float, replicate, Err, Ok, Result}
 use Rattle.std.specs.Float.{binary64}
 use Rattle.std.specs.Float.Ieee.{of_bits, add, sub, le, fits, is_nan}
 use Rattle.std.specs.Float.Ieee.Fits.{and_l, and_r, and_i, add-fits, sub-fits}
@@ -11,8 +11,7 @@ use Rattle.control_point.specs.Point.{is_made}
 use Rattle.control_point.specs.declared.t_mesh_direction.TmeshDirection.{TmeshDirection}
 use Rattle.control_point.specs.declared.t_mesh_direction.TmeshDirection.TheVariants.{Up, Right, Down, Left}
 use Rattle.insertion.specs.Insert.{insert_point}
-use Rattle.insertion.specs.declared.insertion.InsertAnswer.{InsertAnswer}
-use Rattle.insertion.specs.declared.insertion.InsertAnswer.TheVariants.{Done, Torn, Refused}
+use Rattle.insertion.specs.declared.insertion.Insertion.TheVariants.{Done, Torn}
 use Rattle.counting.proofs.BoolLaws.{cond_case}
 use Rattle.store.specs.Store.{store_sides, store_point}
 use Rattle.store.specs.declared.store.Store.{Store}
@@ -39,6 +38,8 @@ use Rattle.calls.proofs.SoundLaws.{corner_store_lem}
 use Rattle.calls.proofs.WithdrawalLaws.{by_either_rule}
 use Rattle.soundness.specs.KnotsPass.{Passes, BothPass, KnotsPass}
 use Rattle.soundness.specs.MapCalls.{map_after_all, entries}
+use Rattle.control_point.specs.declared.refusal.Refusal.{Refusal}
+use Rattle.insertion.specs.declared.insertion.Insertion.{Insertion}
 
 passes : (five : List Float) → (T (all_numbers five) → T (never_falls five)) → Passes five
 passes five h = record { never_fall = h; unchanged = λ numbers. never_falling_pass five (h numbers) }
@@ -135,10 +136,10 @@ good_inserted e map good con d ratio position =
     (insert_point e (store_of map) (is_listed map con) con d ratio).store
     (point_inserted (store_of map) good con d ratio e (is_listed map con))
   where
-    by_answer : (answer : InsertAnswer) (store : Store) → GoodStore store → GoodStore (store_of (after_insertion map position answer store))
-    by_answer (Done opened links) store h = h
-    by_answer (Torn opened links) store h = h
-    by_answer (Refused refusal) store h = good
+    by_answer : (answer : Result Insertion Refusal) (store : Store) → GoodStore store → GoodStore (store_of (after_insertion map position answer store))
+    by_answer (Ok (Done opened links)) store h = h
+    by_answer (Ok (Torn opened links)) store h = h
+    by_answer (Err refusal) store h = good
 
 good_call : (e : Float) (map : Tmesh) → GoodStore (store_of map) → (call : Call) → GoodStore (store_of (map_after e map call))
 unfolding subs_of cell_points

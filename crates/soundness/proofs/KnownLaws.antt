@@ -1,6 +1,6 @@
 -- Laws of walks and searches in mirrored sides: from a made point they meet made points only, so none is refused 11.
 use Prim.Native.Nat.{ℕ, zero, suc, ◌<◌, ◌≤◌, ◌+◌, ◌-◌}
-use Rattle.std.specs.Prelude.{◌≡◌, true, false, ◌&&◌, ◌||◌, T, eqb, Float}
+use Rattle.std.specs.Prelude.{◌≡◌, true, false, ◌&&◌, ◌||◌, T, eqb, Float, Err, None, Ok, Option, Result, Some, ⊤}
 use Rattle.std.proofs.Math.Path.{refl}
 use Rattle.std.proofs.Common.{sym, ap, ◌∙◌, subst, eqb→eq}
 use Rattle.std.specs.Float.Ieee.{binary64, add, sub, lt}
@@ -12,21 +12,17 @@ use Rattle.control_point.specs.Refusal.{refusal_number}
 use Rattle.control_point.specs.Sides.{Sides}
 use Rattle.control_point.specs.Small.{small}
 use Rattle.navigation.specs.Walk.{step_over, arrive, onward, walk_of}
-use Rattle.control_point.specs.declared.refusal.Outcome.{Outcome}
-use Rattle.control_point.specs.declared.refusal.Outcome.TheVariants.{Done, Refused}
 use Rattle.control_point.specs.declared.refusal.Refusal.{Refusal}
 use Rattle.control_point.specs.declared.t_mesh_direction.TmeshDirection.{TmeshDirection}
 use Rattle.control_point.specs.declared.t_mesh_control_point.Side.{Side}
 use Rattle.control_point.specs.declared.t_mesh_control_point.Side.TheVariants.{Link, Border, Opening}
-use Rattle.navigation.specs.declared.walk.Walk.{Walk}
-use Rattle.navigation.specs.declared.walk.Walk.TheVariants.{Reached, Refused as NoWalk}
 use Rattle.counting.proofs.BoolLaws.{cond_case, or_case}
 use Rattle.mirror.specs.Mirror.{Mirrored}
 use Rattle.search.specs.Search.{after_connecting, judge_at, concluded, move_over, seek_from, walked, find_inferred_connection}
-use Rattle.search.specs.declared.search.Found.{Found}
-use Rattle.search.specs.declared.search.Found.TheVariants.{At, Nothing, Failed}
+use Rattle.search.specs.declared.search.Judged.TheVariants.{On, Here, Ends}
+use Rattle.navigation.specs.declared.walk.Walk.{Walk}
+use Rattle.control_point.specs.declared.t_mesh_control_point.LinkEnd.{LinkEnd}
 use Rattle.search.specs.declared.search.Judged.{Judged}
-use Rattle.search.specs.declared.search.Judged.TheVariants.{On, Here, Ends, Fails}
 
 -- a refusal other than 11
 abbrev pub Known : Refusal → Type 0
@@ -46,43 +42,43 @@ met_known refusal met =
     or_case (eqb n 3) (eqb n 4 || eqb n 9) met (met_other n 3 refl) (λ h. or_case (eqb n 4) (eqb n 9) h (met_other n 4 refl) (met_other n 9 refl))
 
 -- a building of knots that is done, or meets what a walk can meet
-abbrev pub MetOutcome : Outcome → Type 0
-MetOutcome Done = Unit {0}
-MetOutcome (Refused refusal) = Met refusal
+abbrev pub MetOutcome : Result ⊤ Refusal → Type 0
+MetOutcome (Ok tt) = Unit {0}
+MetOutcome (Err refusal) = Met refusal
 
 -- a call that is done, or refused otherwise
-abbrev pub KnownOutcome : Outcome → Type 0
-KnownOutcome Done = Unit {0}
-KnownOutcome (Refused refusal) = Known refusal
+abbrev pub KnownOutcome : Result ⊤ Refusal → Type 0
+KnownOutcome (Ok tt) = Unit {0}
+KnownOutcome (Err refusal) = Known refusal
 
 -- a walk that ends at a made point, or is refused 3, 4 or 9
-abbrev pub KnownWalk : ℕ → Walk → Type 0
-KnownWalk made (Reached n sum moves) = n < made
-KnownWalk made (NoWalk refusal) = Met refusal
+abbrev pub KnownWalk : ℕ → Result Walk Refusal → Type 0
+KnownWalk made (Ok walk) = walk.at < made
+KnownWalk made (Err refusal) = Met refusal
 
 -- a search that fails otherwise, if it fails
-abbrev pub KnownFound : Found → Type 0
-KnownFound (At n interval) = Unit {0}
-KnownFound Nothing = Unit {0}
-KnownFound (Failed refusal) = Known refusal
+abbrev pub KnownFound : Result (Option LinkEnd) Refusal → Type 0
+KnownFound (Ok (Some end)) = Unit {0}
+KnownFound (Ok None) = Unit {0}
+KnownFound (Err refusal) = Known refusal
 
 -- a judgement that goes on, or fails otherwise
-abbrev KnownJudged : Judged → Type 0
-KnownJudged On = Unit {0}
-KnownJudged Here = Unit {0}
-KnownJudged Ends = Unit {0}
-KnownJudged (Fails refusal) = Known refusal
+abbrev KnownJudged : Result Judged Refusal → Type 0
+KnownJudged (Ok On) = Unit {0}
+KnownJudged (Ok Here) = Unit {0}
+KnownJudged (Ok Ends) = Unit {0}
+KnownJudged (Err refusal) = Known refusal
 
 module _ (sides : Sides) (made : ℕ) (fits : made ≤ 128) (mirrored : Mirrored made sides) where
   -- ---- the walk
   -- a step from a made point, over its side
-  over : (n : ℕ) (d : TmeshDirection) → n < made → (side : Side) → sides n d ≡ side → (next : ℕ → Float → Walk)
+  over : (n : ℕ) (d : TmeshDirection) → n < made → (side : Side) → sides n d ≡ side → (next : ℕ → Float → Result Walk Refusal)
       → ((m : ℕ) (interval : Float) → m < made → KnownWalk made (next m interval)) → KnownWalk made (step_over side next)
   over n d h (Link m interval) e next known = known m interval (mirrored n d m interval h e).leads
   over n d h (Border weight) e next known = refl
   over n d h Opening e next known = refl
 
-  arrives : (travel watch : TmeshDirection) (at : ℕ) (sum : Float) (moves : ℕ) (next : ℕ → Float → Walk) → at < made
+  arrives : (travel watch : TmeshDirection) (at : ℕ) (sum : Float) (moves : ℕ) (next : ℕ → Float → Result Walk Refusal) → at < made
       → ((m : ℕ) (interval : Float) → m < made → KnownWalk made (next m interval))
       → KnownWalk made (arrive sides made travel watch at sum moves next)
   arrives travel watch at sum moves next h known =
@@ -111,9 +107,9 @@ module _ (sides : Sides) (made : ℕ) (fits : made ≤ 128) (mirrored : Mirrored
       (λ s. cond_case (is_opening (sides first d) && is_opening (sides other (flip_of d))) KnownOutcome _ _ (λ o. tt) (λ o. refl)))
 
   module _ (e : Float) (p : ℕ) (f : TmeshDirection) (p-made : p < made) where
-    known_connecting : (outcome : Outcome) → KnownOutcome outcome → KnownJudged (after_connecting outcome)
-    known_connecting Done known = tt
-    known_connecting (Refused refusal) known = cond_case (eqb (refusal_number refusal) 5) KnownJudged _ _ (λ t. tt) (λ t. known)
+    known_connecting : (outcome : Result ⊤ Refusal) → KnownOutcome outcome → KnownJudged (after_connecting outcome)
+    known_connecting (Ok tt) known = tt
+    known_connecting (Err refusal) known = cond_case (eqb (refusal_number refusal) 5) KnownJudged _ _ (λ t. tt) (λ t. known)
 
     known_judged : (at : ℕ) (measure sum : Float) → at < made → KnownJudged (judge_at e sides made p f at measure sum)
     unfolding judge_at
@@ -123,14 +119,14 @@ module _ (sides : Sides) (made : ℕ) (fits : made ≤ 128) (mirrored : Mirrored
         (λ s. known_connecting (connectable sides made p at f) (known_connectable p at f p-made h))
         (λ s. cond_case (lt measure sum || is_link (sides at (flip_of f))) KnownJudged _ _ (λ t. tt) (λ t. tt)))
 
-    known_concluded : (judged : Judged) (at : ℕ) (interval : Float) (rest : Found) → KnownJudged judged → KnownFound rest
+    known_concluded : (judged : Result Judged Refusal) (at : ℕ) (interval : Float) (rest : Result (Option LinkEnd) Refusal) → KnownJudged judged → KnownFound rest
         → KnownFound (concluded judged at interval rest)
-    known_concluded On at interval rest known known-rest = known-rest
-    known_concluded Here at interval rest known known-rest = tt
-    known_concluded Ends at interval rest known known-rest = tt
-    known_concluded (Fails refusal) at interval rest known known-rest = known
+    known_concluded (Ok On) at interval rest known known-rest = known-rest
+    known_concluded (Ok Here) at interval rest known known-rest = tt
+    known_concluded (Ok Ends) at interval rest known known-rest = tt
+    known_concluded (Err refusal) at interval rest known known-rest = known
 
-    moves : (n : ℕ) (d : TmeshDirection) → n < made → (side : Side) → sides n d ≡ side → (next : ℕ → Float → Found)
+    moves : (n : ℕ) (d : TmeshDirection) → n < made → (side : Side) → sides n d ≡ side → (next : ℕ → Float → Result (Option LinkEnd) Refusal)
         → ((m : ℕ) (interval : Float) → m < made → KnownFound (next m interval)) → KnownFound (move_over side next)
     moves n d h (Link m interval) i next known = known m interval (mirrored n d m interval h i).leads
     moves n d h (Border weight) i next known = refl
@@ -146,10 +142,10 @@ module _ (sides : Sides) (made : ℕ) (fits : made ≤ 128) (mirrored : Mirrored
         (known_judged n measure (add binary64 sum k) l)
         (known_seek left n measure (add binary64 sum k) interval l))
 
-    walks : (walk : Walk) (next : ℕ → Float → Found) → KnownWalk made walk → ((n : ℕ) (sum : Float) → n < made → KnownFound (next n sum))
+    walks : (walk : Result Walk Refusal) (next : ℕ → Float → Result (Option LinkEnd) Refusal) → KnownWalk made walk → ((n : ℕ) (sum : Float) → n < made → KnownFound (next n sum))
         → KnownFound (walked walk next)
-    walks (Reached n sum count) next known go = go n sum known
-    walks (NoWalk refusal) next known go = met_known refusal known
+    walks (Ok walk) next known go = go walk.at walk.sum known
+    walks (Err refusal) next known go = met_known refusal known
 
     pub known_search : KnownFound (find_inferred_connection e sides made p f)
     unfolding find_inferred_connection

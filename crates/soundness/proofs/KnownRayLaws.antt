@@ -1,6 +1,6 @@
 -- Laws of rays and knots in mirrored sides: from a made point each front stands at a made point, so each is refused 3, 4 or 9 if it is refused.
 use Prim.Native.Nat.{ℕ, zero, suc, ◌<◌, ◌≤◌}
-use Rattle.std.specs.Prelude.{◌≡◌, Bool, false, List, Float}
+use Rattle.std.specs.Prelude.{Option, Some, None, ◌≡◌, Bool, false, List, Float, Err, Ok, Result}
 use Rattle.std.proofs.Math.Path.{refl}
 use Rattle.std.specs.Float.{binary64}
 use Rattle.std.specs.Float.Ieee.{sub, lt}
@@ -10,39 +10,37 @@ use Rattle.control_point.proofs.PointLaws.{made_is_made}
 use Rattle.control_point.specs.Sides.{Sides}
 use Rattle.control_point.specs.Small.{small}
 use Rattle.navigation.specs.Walk.{walk_of}
-use Rattle.control_point.specs.declared.sides.SideAnswer.TheVariants.{Is as IsSide}
 use Rattle.control_point.specs.declared.t_mesh_direction.TmeshDirection.{TmeshDirection}
 use Rattle.control_point.specs.declared.t_mesh_direction.TmeshDirection.TheVariants.{Up, Right, Down, Left}
 use Rattle.control_point.specs.declared.t_mesh_control_point.Side.{Side}
 use Rattle.control_point.specs.declared.t_mesh_control_point.Side.TheVariants.{Link, Border, Opening}
-use Rattle.navigation.specs.declared.walk.Walk.{Walk}
-use Rattle.navigation.specs.declared.walk.Walk.TheVariants.{Reached, Refused as NoWalk}
 use Rattle.store.specs.Store.{store_sides}
 use Rattle.store.specs.declared.store.Store.{Store}
 use Rattle.counting.proofs.BoolLaws.{cond_case}
 use Rattle.mirror.specs.Mirror.{Mirrored, Sound}
 use Rattle.float64.specs.Literals.{zero_literal}
 use Rattle.ray_approach.specs.Approach.{approach_round, approach_in, approach_of}
-use Rattle.ray_entry.specs.Entry.{on_ray, after_walk, corner_walk, face_walk, side_entry, point_entry, around_face, after_approach, march_entry, entry_of}
+use Rattle.ray_entry.specs.Entry.{on_ray, after_walk, corner_walk, face_walk, side_entry, point_entry, around_face, after_approach, march_entry, entry_from, entry_of}
 use Rattle.ray.specs.Knots.{after_ray, knots_at, point_knot_vectors}
 use Rattle.ray.specs.Ray.{Ray, entries, refused, before, after_entry, ray_from, ray_of}
-use Rattle.ray_approach.specs.declared.approach.Approach.{Approach}
-use Rattle.ray_approach.specs.declared.approach.Approach.TheVariants.{Aligned, Crossed, Refused as NoApproach}
-use Rattle.ray_entry.specs.declared.entry.Entry.{Entry}
-use Rattle.ray_entry.specs.declared.entry.Entry.TheVariants.{Is, Refused}
+use Rattle.ray_approach.specs.declared.approach.Approach.TheVariants.{Aligned, Crossed}
 use Rattle.ray_entry.specs.declared.entry.Front.{Front}
 use Rattle.ray.specs.declared.knots.KnotsAnswer.{KnotsAnswer}
 use Rattle.soundness.proofs.KnownLaws.{Met, MetOutcome, KnownWalk, known_walk}
+use Rattle.control_point.specs.declared.refusal.Refusal.{Refusal}
+use Rattle.navigation.specs.declared.walk.Walk.{Walk}
+use Rattle.ray_approach.specs.declared.approach.Approach.{Approach}
+use Rattle.ray_entry.specs.declared.entry.Entry.{Entry}
 
 -- an approach that stays at made points, an entry whose front does, and a ray, each refused 3, 4 or 9 if it is refused
-abbrev KnownApproach : ℕ → Approach → Type 0
-KnownApproach made (Aligned n) = n < made
-KnownApproach made (Crossed n r) = n < made
-KnownApproach made (NoApproach refusal) = Met refusal
+abbrev KnownApproach : ℕ → Result Approach Refusal → Type 0
+KnownApproach made (Ok (Aligned n)) = n < made
+KnownApproach made (Ok (Crossed n r)) = n < made
+KnownApproach made (Err refusal) = Met refusal
 
-abbrev KnownEntry : ℕ → Entry → Type 0
-KnownEntry made (Is value front) = front.at < made
-KnownEntry made (Refused refusal) = Met refusal
+abbrev KnownEntry : ℕ → Result Entry Refusal → Type 0
+KnownEntry made (Ok entry) = entry.front.at < made
+KnownEntry made (Err refusal) = Met refusal
 
 abbrev pub KnownRay : Ray → Type 0
 KnownRay (entries values) = Unit {0}
@@ -54,12 +52,12 @@ known_before value (refused refusal) known = known
 
 module _ (e : Float) (sides : Sides) (made : ℕ) (fits : made ≤ 128) (mirrored : Mirrored made sides) (d : TmeshDirection) where
   -- ---- the approach
-  rounds : (walk : Walk) (at : ℕ) (r : Float) (again : ℕ → Float → Approach) → KnownWalk made walk → at < made
+  rounds : (walk : Result Walk Refusal) (at : ℕ) (r : Float) (again : ℕ → Float → Result Approach Refusal) → KnownWalk made walk → at < made
       → ((n : ℕ) (rest : Float) → n < made → KnownApproach made (again n rest)) → KnownApproach made (approach_round e walk at r again)
-  rounds (Reached n sum moves) at r again known h known-again =
-      cond_case (small e (sub binary64 r sum)) (KnownApproach made) _ _ (λ s. h)
-      (λ s. cond_case (lt (sub binary64 r sum) zero_literal) (KnownApproach made) _ _ (λ l. h) (λ l. known-again n (sub binary64 r sum) known))
-  rounds (NoWalk refusal) at r again known h known-again = known
+  rounds (Ok walk) at r again known h known-again =
+      cond_case (small e (sub binary64 r walk.sum)) (KnownApproach made) _ _ (λ s. h)
+      (λ s. cond_case (lt (sub binary64 r walk.sum) zero_literal) (KnownApproach made) _ _ (λ l. h) (λ l. known-again walk.at (sub binary64 r walk.sum) known))
+  rounds (Err refusal) at r again known h known-again = known
 
   known_approach : (left at : ℕ) (r : Float) → at < made → KnownApproach made (approach_in e sides made d left at r)
   unfolding approach_in
@@ -69,21 +67,21 @@ module _ (e : Float) (sides : Sides) (made : ℕ) (fits : made ≤ 128) (mirrore
       (λ n rest l. known_approach left n rest l)
 
   -- ---- one entry
-  after_walk_lem : (walk : Walk) (next : ℕ → Float → Entry) → KnownWalk made walk → ((n : ℕ) (sum : Float) → n < made → KnownEntry made (next n sum))
+  after_walk_lem : (walk : Result Walk Refusal) (next : ℕ → Float → Result Entry Refusal) → KnownWalk made walk → ((n : ℕ) (sum : Float) → n < made → KnownEntry made (next n sum))
       → KnownEntry made (after_walk walk next)
-  after_walk_lem (Reached n sum moves) next known known_next = known_next n sum known
-  after_walk_lem (NoWalk refusal) next known known_next = known
+  after_walk_lem (Ok walk) next known known_next = known_next walk.at walk.sum known
+  after_walk_lem (Err refusal) next known known_next = known
 
   -- over a corner and over a face, from a made point
-  over_corner : (at : ℕ) (next : ℕ → Float → Entry) → at < made → ((n : ℕ) (sum : Float) → n < made → KnownEntry made (next n sum))
+  over_corner : (at : ℕ) (next : ℕ → Float → Result Entry Refusal) → at < made → ((n : ℕ) (sum : Float) → n < made → KnownEntry made (next n sum))
       → KnownEntry made (after_walk (corner_walk sides made d at) next)
   over_corner at next h = after_walk_lem (corner_walk sides made d at) next (known_walk sides made fits mirrored at (anti_clockwise_of d) d h)
 
-  over_face_lem : (at : ℕ) (next : ℕ → Float → Entry) → at < made → ((n : ℕ) (sum : Float) → n < made → KnownEntry made (next n sum))
+  over_face_lem : (at : ℕ) (next : ℕ → Float → Result Entry Refusal) → at < made → ((n : ℕ) (sum : Float) → n < made → KnownEntry made (next n sum))
       → KnownEntry made (after_walk (face_walk sides made d at) next)
   over_face_lem at next h = after_walk_lem (face_walk sides made d at) next (known_walk sides made fits mirrored at d (clockwise_of d) h)
 
-  by_side : (at : ℕ) (met : Bool) → at < made → (side : Side) → sides at d ≡ side → KnownEntry made (side_entry sides made d (IsSide side) at met)
+  by_side : (at : ℕ) (met : Bool) → at < made → (side : Side) → sides at d ≡ side → KnownEntry made (side_entry sides made d (Ok side) at met)
   by_side at met h (Link n interval) link = (mirrored at d n interval h link).leads
   by_side at met h (Border weight) link = h
   by_side at met h Opening link = over_corner at _ h (λ corner r l. over_face_lem corner _ l (λ n sum k. k))
@@ -97,10 +95,10 @@ module _ (e : Float) (sides : Sides) (made : ℕ) (fits : made ≤ 128) (mirrore
       (λ o. over_corner at _ h (λ corner sum l. over_face_lem corner _ l (λ n sum k. k)))
       (λ o. over_face_lem at _ h (λ n sum k. k))
 
-  after_approach_lem : (approach : Approach) (met : Bool) → KnownApproach made approach → KnownEntry made (after_approach sides made d approach met)
-  after_approach_lem (Aligned at) met known = known_point at met known
-  after_approach_lem (Crossed at r) met known = around_face_lem at met r known
-  after_approach_lem (NoApproach refusal) met known = known
+  after_approach_lem : (approach : Result Approach Refusal) (met : Bool) → KnownApproach made approach → KnownEntry made (after_approach sides made d approach met)
+  after_approach_lem (Ok (Aligned at)) met known = known_point at met known
+  after_approach_lem (Ok (Crossed at r)) met known = around_face_lem at met r known
+  after_approach_lem (Err refusal) met known = known
 
   known_march : (at : ℕ) (met : Bool) (r : Float) → at < made → KnownEntry made (march_entry e sides made d at met r)
   unfolding approach_of
@@ -109,16 +107,17 @@ module _ (e : Float) (sides : Sides) (made : ℕ) (fits : made ≤ 128) (mirrore
       (λ b. after_approach_lem (approach_in e sides made d made at r) met (known_approach made at r h))
 
   known_entry : (front : Front) → front.at < made → KnownEntry made (entry_of e sides made d front)
-  known_entry front h =
-      cond_case front.marching (KnownEntry made) _ _
-      (λ m. known_march front.at front.bordered front.distance h)
-      (λ m. known_point front.at front.bordered h)
+  known_entry front h = by_march front.march
+    where
+      by_march : (march : Option Float) → KnownEntry made (entry_from e sides made d front.at front.bordered march)
+      by_march (Some r) = known_march front.at front.bordered r h
+      by_march None = known_point front.at front.bordered h
 
   -- ---- the ray
-  after_entry_lem : (entry : Entry) (rest : Front → Ray) → KnownEntry made entry → ((front : Front) → front.at < made → KnownRay (rest front))
+  after_entry_lem : (entry : Result Entry Refusal) (rest : Front → Ray) → KnownEntry made entry → ((front : Front) → front.at < made → KnownRay (rest front))
       → KnownRay (after_entry entry rest)
-  after_entry_lem (Is value front) rest known known-rest = known_before value (rest front) (known-rest front known)
-  after_entry_lem (Refused refusal) rest known known-rest = known
+  after_entry_lem (Ok entry) rest known known-rest = known_before entry.value (rest entry.front) (known-rest entry.front known)
+  after_entry_lem (Err refusal) rest known known-rest = known
 
   known_from : (left : ℕ) (front : Front) → front.at < made → KnownRay (ray_from e sides made d left front)
   unfolding ray_from

@@ -1,11 +1,9 @@
 -- Laws of linking two points of a sound store: that a connect says what its test said, and which sides a linking leaves alone.
-use Rattle.std.specs.Prelude.{ℕ, ◌≡◌, refl, Bool, true, false, cond, ◌&&◌, eqb, Float}
+use Rattle.std.specs.Prelude.{ℕ, ◌≡◌, refl, Bool, true, false, cond, ◌&&◌, eqb, Float, Err, Ok, Result, ⊤}
 use Rattle.std.proofs.Common.{sym, ap, ◌∙◌, arith, ne_eqb}
 use Rattle.control_point.specs.Connect.{connectable}
 use Rattle.control_point.specs.Direction.{flip_of, same_direction}
 use Rattle.control_point.specs.Sides.{Sides, sides_with}
-use Rattle.control_point.specs.declared.refusal.Outcome.{Outcome}
-use Rattle.control_point.specs.declared.refusal.Outcome.TheVariants.{Done, Refused}
 use Rattle.control_point.specs.declared.t_mesh_direction.TmeshDirection.{TmeshDirection}
 use Rattle.control_point.specs.declared.t_mesh_control_point.Side.{Side}
 use Rattle.control_point.specs.declared.t_mesh_control_point.Side.TheVariants.{Link}
@@ -13,6 +11,7 @@ use Rattle.store.specs.Store.{store_sides, linked, settled, connect_points}
 use Rattle.store.specs.declared.store.Store.{Store}
 use Rattle.mirror.specs.Mirror.{Sound, Joining}
 use Rattle.store.proofs.StoreLaws.{sides_linked}
+use Rattle.control_point.specs.declared.refusal.Refusal.{Refusal}
 
 -- sides with another one: those of another point, and those in another direction
 module _ (sides : Sides) (n : ℕ) (d : TmeshDirection) (side : Side) (m : ℕ) (f : TmeshDirection) where
@@ -32,9 +31,9 @@ pub connect_outcome : (store : Store) (first other : ℕ) (d : TmeshDirection) (
 unfolding connect_points
 connect_outcome store first other d interval = by_outcome (connectable (store_sides store) store.made first other d)
   where
-    by_outcome : (outcome : Outcome) → outcome ≡ (settled outcome (linked store first other d interval) store).outcome
-    by_outcome Done = refl
-    by_outcome (Refused refusal) = refl
+    by_outcome : (outcome : Result ⊤ Refusal) → outcome ≡ (settled outcome (linked store first other d interval) store).outcome
+    by_outcome (Ok tt) = refl
+    by_outcome (Err refusal) = refl
 
 module _ (store : Store) (sound : Sound store) (first other : ℕ) (d : TmeshDirection) (interval : Float)
     (joining : Joining store.made (store_sides store) first other d) where

@@ -1,12 +1,10 @@
 -- Laws of a call on a sound mesh: it leaves a sound mesh, a listing with at most the number that an insertion made, and 11 is not its answer.
 use Prim.Native.Nat.{ℕ, zero, suc, ◌<◌, ◌+◌}
-use Rattle.std.specs.Prelude.{◌≡◌, Bool, true, false, ◌&&◌, ◌||◌, List, eqb, Float, length, set}
+use Rattle.std.specs.Prelude.{◌≡◌, Bool, true, false, ◌&&◌, ◌||◌, List, eqb, Float, length, set, Err, Ok, Result, ⊤}
 use Rattle.std.proofs.Math.Path.{refl, ap, subst}
 use Rattle.std.proofs.Common.{sym, ◌∙◌, arith, eqb-true, length-set, get_or-set_same, get_or-set_other, ext_get_or}
 use Rattle.std.proofs.lemmas.Bool.{eqb-false}
 use Rattle.std.proofs.Math.ListN.{get_or}
-use Rattle.control_point.specs.declared.refusal.Outcome.{Outcome}
-use Rattle.control_point.specs.declared.refusal.Outcome.TheVariants.{Done, Refused}
 use Rattle.control_point.specs.declared.t_mesh_direction.TmeshDirection.{TmeshDirection}
 use Rattle.store.specs.declared.store.Store.{Store}
 use Rattle.counting.proofs.BoolLaws.{cond_case, and_both, or_case}
@@ -14,8 +12,7 @@ use Rattle.mirror.specs.Mirror.{Sound}
 use Rattle.insertion.specs.Insert.{is_done, is_refused, insert_point}
 use Rattle.insertion.specs.Withdrawal.{is_withdrawn}
 use Rattle.insertion.proofs.WithdrawalLaws.{withdrawn_torn, torn_not_done}
-use Rattle.insertion.specs.declared.insertion.InsertAnswer.{InsertAnswer}
-use Rattle.insertion.specs.declared.insertion.InsertAnswer.TheVariants.{Done as Added, Torn, Refused as NotAdded}
+use Rattle.insertion.specs.declared.insertion.Insertion.TheVariants.{Done as Added, Torn}
 use Rattle.insertion.specs.declared.insertion.Inserted.{Inserted}
 use Rattle.ray.specs.Knots.{point_knot_vectors}
 use Rattle.ray.specs.declared.knots.PointKnots.{PointKnots}
@@ -30,12 +27,8 @@ use Rattle.surface.proofs.EvaluationLaws.{generated_mesh, ready_mesh}
 use Rattle.surface.proofs.SetPointLaws.{set_point_leaves}
 use Rattle.knot_vectors.specs.Knots.{AllKnots, all, none, on_all, in_row, with_row, rows_from, all_knots, keeping, generate_knot_vectors}
 use Rattle.surface.specs.declared.evaluation.Evaluation.{Evaluation}
-use Rattle.surface.specs.declared.evaluation.EvaluationAnswer.{EvaluationAnswer}
-use Rattle.surface.specs.declared.evaluation.EvaluationAnswer.TheVariants.{Is, Refused as NoValue}
 use Rattle.knot_vectors.specs.declared.knots.Generated.{Generated}
 use Rattle.cells.specs.Cells.{cell_answer_by, cell_points}
-use Rattle.cells.specs.declared.CellAnswer.{CellAnswer}
-use Rattle.cells.specs.declared.CellAnswer.TheVariants.{Is as Words, Refused as NoWords}
 use Rattle.grid_index.specs.Index.{cell_of}
 use Rattle.grid_index.specs.declared.Cell.{Cell}
 use Rattle.calls.specs.Calls.{insertion, evaluation, set_point_call, question, pulling}
@@ -48,6 +41,8 @@ use Rattle.soundness.proofs.InsertionLaws.{KnownAnswer, Grown, Inserts, inserts}
 use Rattle.soundness.proofs.KnownLaws.{Met, MetOutcome}
 use Rattle.soundness.proofs.KnownRayLaws.{known_knots}
 use Rattle.soundness.specs.Theorems.{Placing, Seeking}
+use Rattle.control_point.specs.declared.refusal.Refusal.{Refusal}
+use Rattle.insertion.specs.declared.insertion.Insertion.{Insertion}
 
 -- a sound store whose listed numbers are made
 pub record SoundMesh (mesh : Mesh) : Type 0 where
@@ -56,14 +51,14 @@ pub record SoundMesh (mesh : Mesh) : Type 0 where
   pub listed_made : (n : ℕ) → get_or mesh.listed n false ≡ true → n < (mesh_store mesh).made
 
 -- an evaluation that is refused 3, 4 or 9, if it is refused
-abbrev pub KnownEvaluation : EvaluationAnswer → Type 0
-KnownEvaluation (Is value) = Unit {0}
-KnownEvaluation (NoValue refusal) = Met refusal
+abbrev pub KnownEvaluation : Result Evaluation Refusal → Type 0
+KnownEvaluation (Ok value) = Unit {0}
+KnownEvaluation (Err refusal) = Met refusal
 
 -- a question likewise
-abbrev pub KnownQuestion : CellAnswer → Type 0
-KnownQuestion (Words words) = Unit {0}
-KnownQuestion (NoWords refusal) = Met refusal
+abbrev pub KnownQuestion : Result Cell Refusal → Type 0
+KnownQuestion (Ok words) = Unit {0}
+KnownQuestion (Err refusal) = Met refusal
 
 -- all knots built, or refused so
 abbrev KnownAll : AllKnots → Type 0
@@ -113,24 +108,24 @@ module _ (map : Tmesh) (mesh-sound : SoundMesh map.mesh) where
       }
 
   -- by the answer, and what it says of the store that was left
-  listing_after : (position : Position) (answer : InsertAnswer) (store : Store) → (is_refused answer ≡ false → Grown (store_of map) store) → (n : ℕ)
+  listing_after : (position : Position) (answer : Result Insertion Refusal) (store : Store) → (is_refused answer ≡ false → Grown (store_of map) store) → (n : ℕ)
       → is_listed (after_insertion map position answer store) n ≡ ((is_done answer && eqb n (store_of map).made) || is_listed map n)
-  listing_after position (Added opened inferred) store grown n = listing_placed true (grown refl).roomy n
-  listing_after position (Torn opened inferred) store grown n = listing_placed false (grown refl).roomy n
-  listing_after position (NotAdded refusal) store grown n = refl
+  listing_after position (Ok (Added opened inferred)) store grown n = listing_placed true (grown refl).roomy n
+  listing_after position (Ok (Torn opened inferred)) store grown n = listing_placed false (grown refl).roomy n
+  listing_after position (Err refusal) store grown n = refl
 
   -- torn, it is as it was
   pub listing_torn : (position : Position) (opened inferred : ℕ) (store : Store) → Grown (store_of map) store
-      → (after_insertion map position (Torn opened inferred) store).mesh.listed ≡ map.mesh.listed
+      → (after_insertion map position (Ok (Torn opened inferred)) store).mesh.listed ≡ map.mesh.listed
   listing_torn position opened inferred store grown =
       ext_get_or false (set map.mesh.listed (store_of map).made false) map.mesh.listed (length-set map.mesh.listed (store_of map).made false)
-      (λ n _. listing_after position (Torn opened inferred) store (λ _. grown) n)
+      (λ n _. listing_after position (Ok (Torn opened inferred)) store (λ _. grown) n)
 
-  sound_after : (position : Position) (answer : InsertAnswer) (store : Store) → (is_refused answer ≡ false → Grown (store_of map) store)
+  sound_after : (position : Position) (answer : Result Insertion Refusal) (store : Store) → (is_refused answer ≡ false → Grown (store_of map) store)
       → SoundMesh (after_insertion map position answer store).mesh
-  sound_after position (Added opened inferred) store grown = sound_placed true position store (grown refl)
-  sound_after position (Torn opened inferred) store grown = sound_placed false position store (grown refl)
-  sound_after position (NotAdded refusal) store grown = mesh-sound
+  sound_after position (Ok (Added opened inferred)) store grown = sound_placed true position store (grown refl)
+  sound_after position (Ok (Torn opened inferred)) store grown = sound_placed false position store (grown refl)
+  sound_after position (Err refusal) store grown = mesh-sound
 
   module _ (e : Float) (con : ℕ) (d : TmeshDirection) (ratio : Float) where
     result : Inserted
@@ -182,9 +177,9 @@ module _ (map : Tmesh) (mesh-sound : SoundMesh map.mesh) where
 
   -- ---- an evaluation and a question
   module _ (e : Float) where
-    known_row : (outcome : Outcome) (knots : PointKnots) (n : ℕ) (rows : List PointKnots) → MetOutcome outcome → KnownAll (in_row outcome knots n rows)
-    known_row Done knots n rows known = tt
-    known_row (Refused refusal) knots n rows known = known
+    known_row : (outcome : Result ⊤ Refusal) (knots : PointKnots) (n : ℕ) (rows : List PointKnots) → MetOutcome outcome → KnownAll (in_row outcome knots n rows)
+    known_row (Ok tt) knots n rows known = tt
+    known_row (Err refusal) knots n rows known = known
 
     known_listed : (n : ℕ) (rows : List PointKnots) → KnownAll (with_row e map n rows)
     known_listed n rows =
@@ -220,17 +215,17 @@ module _ (map : Tmesh) (mesh-sound : SoundMesh map.mesh) where
     unfolding with_knots
     ready_known = cond_case map.kept KnownBuilt _ _ (λ k. tt) (λ k. generation_known)
 
-    known_answer : (outcome : Outcome) (value : Evaluation) → MetOutcome outcome → KnownEvaluation (answer_by outcome value)
-    known_answer Done value known = tt
-    known_answer (Refused refusal) value known = known
+    known_answer : (outcome : Result ⊤ Refusal) (value : Evaluation) → MetOutcome outcome → KnownEvaluation (answer_by outcome value)
+    known_answer (Ok tt) value known = tt
+    known_answer (Err refusal) value known = known
 
     pub evaluation_known : (s t : Float) → KnownEvaluation (subs_of e map s t).answer
     unfolding subs_of
     evaluation_known s t = known_answer (with_knots e map).outcome (value_of (with_knots e map).map s t) ready_known
 
-    known_words : (outcome : Outcome) (words : Cell) → MetOutcome outcome → KnownQuestion (cell_answer_by outcome words)
-    known_words Done words known = tt
-    known_words (Refused refusal) words known = known
+    known_words : (outcome : Result ⊤ Refusal) (words : Cell) → MetOutcome outcome → KnownQuestion (cell_answer_by outcome words)
+    known_words (Ok tt) words known = tt
+    known_words (Err refusal) words known = known
 
     pub question_known : (cell : ℕ) → KnownQuestion (cell_points e map cell).answer
     unfolding cell_points

@@ -1,5 +1,5 @@
 -- Each call tests the points that it is given before all else, and what it meets from made points on is made.
-use Rattle.std.specs.Prelude.{ℕ, ◌≡◌, Bool, cond, not, ◌&&◌, ◌++◌, ltb, Float, length}
+use Rattle.std.specs.Prelude.{ℕ, ◌≡◌, Bool, cond, not, ◌&&◌, ◌++◌, ltb, Float, length, Err, Ok, Result, ⊤}
 use Rattle.std.proofs.Math.Path.{refl, ap}
 use Rattle.std.proofs.Common.{sym, ◌∙◌}
 use Rattle.std.proofs.Math.Bool.{true, false}
@@ -8,14 +8,10 @@ use Rattle.control_point.specs.Connect.{connectable}
 use Rattle.control_point.specs.Point.{side_of, is_border, is_made}
 use Rattle.control_point.proofs.PointLaws.{is_made_made, is_made_room, made_is_made}
 use Rattle.control_point.specs.Told.{tells, refused_or, outcome_number, side_told}
-use Rattle.control_point.specs.declared.refusal.Outcome.{Outcome}
-use Rattle.control_point.specs.declared.refusal.Outcome.TheVariants.{Done, Refused}
 use Rattle.control_point.specs.declared.t_mesh_direction.TmeshDirection.{TmeshDirection}
 use Rattle.control_point.specs.declared.t_mesh_control_point.Side.{Side}
 use Rattle.control_point.specs.declared.t_mesh_control_point.Side.TheVariants.{Link, Border, Opening}
 use Rattle.navigation.specs.Walk.{walk_number, walk_of}
-use Rattle.navigation.specs.declared.walk.Walk.{Walk}
-use Rattle.navigation.specs.declared.walk.Walk.TheVariants.{Reached, Refused as NoWalk}
 use Rattle.store.specs.Store.{store_sides, store_point, linked, settled, opened, weighted, all_borders, make_loose, connect_points, remove_connection, remove_edge_condition, set_edge_con_weight, set_knot_coordinates, read_side, read_point, point_told}
 use Rattle.store.proofs.StoreLaws.{side_read}
 use Rattle.store.specs.declared.store.Changed.{Changed}
@@ -24,8 +20,7 @@ use Rattle.counting.proofs.BoolLaws.{cond_case, and_both}
 use Rattle.mirror.specs.Calls.{Call as Direct, make_loose_call, connect, remove_connection_call, remove_edge_condition_call, set_edge_con_weight_call, set_knot_coordinates_call, navigate_until_con_call, read_side_call, read_point_call, call_number}
 use Rattle.mirror.specs.Mirror.{Sound}
 use Rattle.insertion.specs.Insert.{answer_number}
-use Rattle.insertion.specs.declared.insertion.InsertAnswer.{InsertAnswer}
-use Rattle.insertion.specs.declared.insertion.InsertAnswer.TheVariants.{Done as Added, Torn, Refused as NotAdded}
+use Rattle.insertion.specs.declared.insertion.Insertion.TheVariants.{Done as Added, Torn}
 use Rattle.ray.specs.Knots.{point_knot_vectors, knots_told}
 use Rattle.ray.specs.Ray.{Ray, entries, refused, ray_of, cast_of, floats, cast_told}
 use Rattle.ray.specs.declared.knots.KnotsAnswer.{KnotsAnswer}
@@ -37,11 +32,7 @@ use Rattle.knot_vectors.specs.Knots.{generate_knot_vectors}
 use Rattle.surface.specs.Evaluation.{evaluation_number, subs_of}
 use Rattle.surface.specs.SetPoint.{weighty, where_weighty, weighed}
 use Rattle.surface.proofs.SetPointLaws.{set_point_case}
-use Rattle.surface.specs.declared.evaluation.EvaluationAnswer.{EvaluationAnswer}
-use Rattle.surface.specs.declared.evaluation.EvaluationAnswer.TheVariants.{Is, Refused as NoValue}
 use Rattle.cells.specs.Cells.{cell_number, cell_points}
-use Rattle.cells.specs.declared.CellAnswer.{CellAnswer}
-use Rattle.cells.specs.declared.CellAnswer.TheVariants.{Is as Words, Refused as NoWords}
 use Rattle.calls.specs.Calls.{insertion, evaluation, set_point_call, question, pulling}
 use Rattle.calls.proofs.PullingLaws.{setting_case}
 use Rattle.soundness.proofs.EveryMapProof.{of_sound}
@@ -51,44 +42,49 @@ use Rattle.soundness.proofs.KnownRayLaws.{KnownRay, known_ray, known_knots}
 use Rattle.soundness.specs.MapCalls.{MapCall, entry, generate_knot_vectors_call, point_knot_vectors_call, cast_ray_call, direct, number_to, given_made, points_made}
 use Rattle.soundness.proofs.MapLaws.{SoundMesh, KnownEvaluation, KnownQuestion, insertion_known, insertion_seeks, generation_known, evaluation_known, question_known}
 use Rattle.soundness.specs.Theorems.{MeetsPoints, NoPointNever}
+use Rattle.control_point.specs.declared.refusal.Refusal.{Refusal}
+use Rattle.navigation.specs.declared.walk.Walk.{Walk}
+use Rattle.insertion.specs.declared.insertion.Insertion.{Insertion}
+use Rattle.surface.specs.declared.evaluation.Evaluation.{Evaluation}
+use Rattle.grid_index.specs.declared.Cell.{Cell}
 
 -- ---- answers that are not 11
-answer_not : (answer : InsertAnswer) → KnownAnswer answer → eqb (answer_number answer) 11 ≡ false
-answer_not (Added opened inferred) known = refl
-answer_not (Torn opened inferred) known = refl
-answer_not (NotAdded refusal) known = known
+answer_not : (answer : Result Insertion Refusal) → KnownAnswer answer → eqb (answer_number answer) 11 ≡ false
+answer_not (Ok (Added opened inferred)) known = refl
+answer_not (Ok (Torn opened inferred)) known = refl
+answer_not (Err refusal) known = known
 
-evaluation_not : (answer : EvaluationAnswer) → KnownEvaluation answer → eqb (evaluation_number answer) 11 ≡ false
-evaluation_not (Is value) known = refl
-evaluation_not (NoValue refusal) known = met_known refusal known
+evaluation_not : (answer : Result Evaluation Refusal) → KnownEvaluation answer → eqb (evaluation_number answer) 11 ≡ false
+evaluation_not (Ok value) known = refl
+evaluation_not (Err refusal) known = met_known refusal known
 
-weighed_not : (answer : EvaluationAnswer) → KnownEvaluation answer → eqb (evaluation_number (weighed answer)) 11 ≡ false
+weighed_not : (answer : Result Evaluation Refusal) → KnownEvaluation answer → eqb (evaluation_number (weighed answer)) 11 ≡ false
 unfolding where_weighty
-weighed_not (Is value) known = cond_case (weighty value) (λ answer. eqb (evaluation_number answer) 11 ≡ false) _ _ (λ _. refl) (λ _. refl)
-weighed_not (NoValue refusal) known = met_known refusal known
+weighed_not (Ok value) known = cond_case (weighty value) (λ answer. eqb (evaluation_number answer) 11 ≡ false) _ _ (λ _. refl) (λ _. refl)
+weighed_not (Err refusal) known = met_known refusal known
 
-question_not : (answer : CellAnswer) → KnownQuestion answer → eqb (cell_number answer) 11 ≡ false
-question_not (Words words) known = refl
-question_not (NoWords refusal) known = met_known refusal known
+question_not : (answer : Result Cell Refusal) → KnownQuestion answer → eqb (cell_number answer) 11 ≡ false
+question_not (Ok words) known = refl
+question_not (Err refusal) known = met_known refusal known
 
-outcome_not : (outcome : Outcome) → MetOutcome outcome → eqb (outcome_number outcome) 11 ≡ false
-outcome_not Done known = refl
-outcome_not (Refused refusal) known = met_known refusal known
+outcome_not : (outcome : Result ⊤ Refusal) → MetOutcome outcome → eqb (outcome_number outcome) 11 ≡ false
+outcome_not (Ok tt) known = refl
+outcome_not (Err refusal) known = met_known refusal known
 
-connected_not : (outcome : Outcome) → KnownOutcome outcome → eqb (outcome_number outcome) 11 ≡ false
-connected_not Done known = refl
-connected_not (Refused refusal) known = known
+connected_not : (outcome : Result ⊤ Refusal) → KnownOutcome outcome → eqb (outcome_number outcome) 11 ≡ false
+connected_not (Ok tt) known = refl
+connected_not (Err refusal) known = known
 
-walk_not : (made : ℕ) (walk : Walk) → KnownWalk made walk → eqb (walk_number walk) 11 ≡ false
-walk_not made (Reached n sum moves) known = refl
-walk_not made (NoWalk refusal) known = met_known refusal known
+walk_not : (made : ℕ) (walk : Result Walk Refusal) → KnownWalk made walk → eqb (walk_number walk) 11 ≡ false
+walk_not made (Ok walk) known = refl
+walk_not made (Err refusal) known = met_known refusal known
 
 knots_not : (answer : KnotsAnswer) → MetOutcome answer.outcome → eqb (knots_told answer).number 11 ≡ false
 knots_not answer known = by_outcome answer.outcome known
   where
-    by_outcome : (outcome : Outcome) → MetOutcome outcome → eqb (refused_or outcome (tells (floats (answer.knots.s ++ answer.knots.t)))).number 11 ≡ false
-    by_outcome Done known = refl
-    by_outcome (Refused refusal) known = met_known refusal known
+    by_outcome : (outcome : Result ⊤ Refusal) → MetOutcome outcome → eqb (refused_or outcome (tells (floats (answer.knots.s ++ answer.knots.t)))).number 11 ≡ false
+    by_outcome (Ok tt) known = refl
+    by_outcome (Err refusal) known = met_known refusal known
 
 ray_not : (ray : Ray) (n : ℕ) → KnownRay ray → eqb (cast_told (cast_of ray n)).number 11 ≡ false
 ray_not (entries values) n known = refl
@@ -108,9 +104,9 @@ first_test number false call other eleven known = eleven
 abbrev changed_number : Changed → ℕ
 changed_number changed = outcome_number changed.outcome
 
-settled_number : (outcome : Outcome) (new old : Store) → changed_number (settled outcome new old) ≡ outcome_number outcome
-settled_number Done new old = refl
-settled_number (Refused refusal) new old = refl
+settled_number : (outcome : Result ⊤ Refusal) (new old : Store) → changed_number (settled outcome new old) ≡ outcome_number outcome
+settled_number (Ok tt) new old = refl
+settled_number (Err refusal) new old = refl
 
 module _ (store : Store) (sound : Sound store) where
   abbrev NotEleven : Changed → Type 0

@@ -1,10 +1,9 @@
 -- Only an insertion done drops the kept knots and their index: every other call is defined so.
-use Rattle.std.specs.Prelude.{ℕ, ◌≡◌, refl, Bool, true, false, Float}
+use Rattle.std.specs.Prelude.{ℕ, ◌≡◌, refl, Bool, true, false, Float, Err, Ok, Result}
 use Rattle.std.proofs.Common.{true≢false}
 use Rattle.control_point.specs.declared.t_mesh_direction.TmeshDirection.{TmeshDirection}
 use Rattle.insertion.specs.Insert.{is_done, insert_point}
-use Rattle.insertion.specs.declared.insertion.InsertAnswer.{InsertAnswer}
-use Rattle.insertion.specs.declared.insertion.InsertAnswer.TheVariants.{Done as Added, Torn, Refused}
+use Rattle.insertion.specs.declared.insertion.Insertion.TheVariants.{Done as Added, Torn}
 use Rattle.knot_vectors.specs.Knots.{AllKnots, all, none, all_knots, keeping, generate_knot_vectors}
 use Rattle.knot_vectors.specs.declared.knots.Generated.{Generated}
 use Rattle.surface.specs.Evaluation.{with_knots, subs_of}
@@ -20,12 +19,14 @@ use Rattle.calls.proofs.WithdrawalLaws.{by_either_rule}
 use Rattle.counting.proofs.BoolLaws.{both_ways, cond_case}
 use Rattle.soundness.specs.MapCalls.{entry, generate_knot_vectors_call, point_knot_vectors_call, cast_ray_call, direct}
 use Rattle.soundness.specs.Theorems.{OnlyDoneDrops}
+use Rattle.control_point.specs.declared.refusal.Refusal.{Refusal}
+use Rattle.insertion.specs.declared.insertion.Insertion.{Insertion}
 
 -- an insertion that is not done
-kept_after_lem : (kept : Bool) (answer : InsertAnswer) → kept ≡ true → is_done answer ≡ false → kept_after kept answer ≡ true
-kept_after_lem kept (Added opened inferred) k done = absurd (true≢false done)
-kept_after_lem kept (Torn opened inferred) k done = k
-kept_after_lem kept (Refused refusal) k done = k
+kept_after_lem : (kept : Bool) (answer : Result Insertion Refusal) → kept ≡ true → is_done answer ≡ false → kept_after kept answer ≡ true
+kept_after_lem kept (Ok (Added opened inferred)) k done = absurd (true≢false done)
+kept_after_lem kept (Ok (Torn opened inferred)) k done = k
+kept_after_lem kept (Err refusal) k done = k
 
 -- a building, done or refused
 kept_built : (map : Tmesh) (rows : AllKnots) → map.kept ≡ true → (keeping map rows).map.kept ≡ true

@@ -1,6 +1,6 @@
 -- Laws of placing a point in a link of a sound store: both connects are done, so each is a linking of open sides; the store stays sound, and
 -- the point's sides across the link are borders of 0.0.
-use Rattle.std.specs.Prelude.{ℕ, ◌<◌, ◌+◌, ◌≡◌, refl, Bool, true, false, cond, Float}
+use Rattle.std.specs.Prelude.{ℕ, ◌<◌, ◌+◌, ◌≡◌, refl, Bool, true, false, cond, Float, Ok}
 use Rattle.std.proofs.Common.{sym, ap, ◌∙◌, eq-eqb}
 use Rattle.std.proofs.Math.Path.{subst}
 use Rattle.std.specs.Float.{binary64}
@@ -10,7 +10,6 @@ use Rattle.control_point.specs.Direction.{clockwise_of, anti_clockwise_of, flip_
 use Rattle.control_point.specs.Point.{side_of, with_side, loose_point, is_link, is_made}
 use Rattle.control_point.proofs.PointLaws.{made_is_made, side_with}
 use Rattle.control_point.specs.Sides.{Sides}
-use Rattle.control_point.specs.declared.refusal.Outcome.TheVariants.{Done}
 use Rattle.control_point.specs.declared.t_mesh_direction.TmeshDirection.{TmeshDirection}
 use Rattle.control_point.specs.declared.t_mesh_direction.TmeshDirection.TheVariants.{Up, Right, Down, Left}
 use Rattle.control_point.specs.declared.t_mesh_control_point.Side.TheVariants.{Link, Border, Opening}
@@ -112,10 +111,10 @@ module _ (store : Store) (sound : Sound store) (con other : ℕ) (d : TmeshDirec
     pub far_joined_lem : far_joined store con other d interval ratio ≡ done (linked near_linked store.made other d (far_interval interval ratio))
     far_joined_lem = far_done store sound.room roomy con other (was_made con con_made) (was_made other other_made) d interval ratio
 
-    pub near_succeeds : (near_joined store con other d interval ratio).outcome ≡ Done
+    pub near_succeeds : (near_joined store con other d interval ratio).outcome ≡ Ok tt
     near_succeeds = ap (λ (changed : Changed). changed.outcome) near_joined_lem
 
-    pub far_succeeds : (far_joined store con other d interval ratio).outcome ≡ Done
+    pub far_succeeds : (far_joined store con other d interval ratio).outcome ≡ Ok tt
     far_succeeds = ap (λ (changed : Changed). changed.outcome) far_joined_lem
 
     pub near_joining : Joining (store.made + 1) (store_sides stood) con store.made d

@@ -1,7 +1,7 @@
 -- The theorems of Pulls. A point is made with the pull 1.0, and the places of numbers not made have it too; only a setting that is done stores another, in the place of a made number, which
 -- stays made. So each call moves a pull as `call_pull` says, and the theorems on 1.0 are read off the last one set, or off what is not made. No definition but the evaluation's value reads a pull.
 use Prim.Native.Nat.{ℕ, zero, suc, ◌+◌, ◌≤◌, ◌<◌}
-use Rattle.std.specs.Prelude.{◌≡◌, Bool, cond, ◌&&◌, eqb, ltb, Float, length, get_or, set}
+use Rattle.std.specs.Prelude.{◌≡◌, Bool, cond, ◌&&◌, eqb, ltb, Float, length, get_or, set, Err, Ok, Result, ⊤}
 use Rattle.std.proofs.Math.Path.{refl, sym, ap, subst}
 use Rattle.std.proofs.Common.{◌∙◌, arith, eqb-true, ltb-false, get_or-set_same, get_or-set_other}
 use Rattle.std.proofs.Math.Bool.{true, false}
@@ -14,16 +14,13 @@ use Rattle.float64.specs.Literals.{one_literal}
 use Rattle.control_point.proofs.PointLaws.{is_made_made, is_made_room}
 use Rattle.control_point.specs.Point.{is_made}
 use Rattle.control_point.specs.Told.{outcome_told, outcome_number}
-use Rattle.control_point.specs.declared.refusal.Outcome.{Outcome}
-use Rattle.control_point.specs.declared.refusal.Outcome.TheVariants.{Done}
 use Rattle.control_point.specs.declared.t_mesh_direction.TmeshDirection.{TmeshDirection}
 use Rattle.ray.specs.declared.knots.PointKnots.{PointKnots}
 use Rattle.store.specs.declared.store.Store.{Store}
 use Rattle.counting.proofs.BoolLaws.{cond_case, and_both}
 use Rattle.insertion.specs.Insert.{is_refused, insert_point}
 use Rattle.insertion.specs.Withdrawal.{is_withdrawn}
-use Rattle.insertion.specs.declared.insertion.InsertAnswer.{InsertAnswer}
-use Rattle.insertion.specs.declared.insertion.InsertAnswer.TheVariants.{Done as Added, Torn, Refused as NotAdded}
+use Rattle.insertion.specs.declared.insertion.Insertion.TheVariants.{Done as Added, Torn}
 use Rattle.t_mesh.specs.Insertion.{with_placed, after_insertion, add_control_point}
 use Rattle.t_mesh.specs.Tmesh.{unpulled, no_place, place_under, pull_of, store_of, is_listed, origin, new_tmesh}
 use Rattle.t_mesh.specs.declared.t_mesh.Mesh.{Mesh}
@@ -52,6 +49,8 @@ use Rattle.soundness.specs.MapCalls.{MapCall, entry, generate_knot_vectors_call,
 use Rattle.soundness.proofs.MapLaws.{SoundMesh, insertion_grown, sound_call}
 use Rattle.soundness.specs.Pulls.{entry_pull, call_pull, last_pull, PullIsLastSet, NeverSet, UnsetPullIsOne, UnmadePullIsOne, OnesSet, OnesArePlain, all_unpulled, sets_pull, evaluates, without_settings, PullsUnseen, PullsUntold}
 use Rattle.soundness.specs.Theorems.{EveryMap}
+use Rattle.control_point.specs.declared.refusal.Refusal.{Refusal}
+use Rattle.insertion.specs.declared.insertion.Insertion.{Insertion}
 
 -- ---- the last one set
 -- a place for each number below 128, and the pull 1.0 for each that is not made
@@ -89,10 +88,10 @@ module _ (map : Tmesh) (sound : SoundMesh map.mesh) (unmade : Unmade map.mesh) (
   placed_pull position n below false is =
       ap (λ (place : Place). place.pull) (get_or-set_other map.mesh.places map.mesh.made n (unpulled position) no_place (eqb-false n map.mesh.made is))
 
-  after_pull_lem : (position : Position) (answer : InsertAnswer) (store : Store) (n : ℕ) → n < 128 → pull_of (after_insertion map position answer store) n ≡ pull_of map n
-  after_pull_lem position (Added opened inferred) store n below = placed_pull position n below (eqb n map.mesh.made) refl
-  after_pull_lem position (Torn opened inferred) store n below = placed_pull position n below (eqb n map.mesh.made) refl
-  after_pull_lem position (NotAdded refusal) store n below = refl
+  after_pull_lem : (position : Position) (answer : Result Insertion Refusal) (store : Store) (n : ℕ) → n < 128 → pull_of (after_insertion map position answer store) n ≡ pull_of map n
+  after_pull_lem position (Ok (Added opened inferred)) store n below = placed_pull position n below (eqb n map.mesh.made) refl
+  after_pull_lem position (Ok (Torn opened inferred)) store n below = placed_pull position n below (eqb n map.mesh.made) refl
+  after_pull_lem position (Err refusal) store n below = refl
 
   placed_unmade : (position : Position) (lists : Bool) (store : Store) → Grown (store_of map) store
       → Unmade (with_placed map.mesh store map.mesh.made position lists)
@@ -102,11 +101,11 @@ module _ (map : Tmesh) (sound : SoundMesh map.mesh) (unmade : Unmade map.mesh) (
         ones = λ n h below. placed_ones position n (omega (arith, h, grown.made_is)) below;
       }
 
-  after_unmade : (position : Position) (answer : InsertAnswer) (store : Store) → (is_refused answer ≡ false → Grown (store_of map) store)
+  after_unmade : (position : Position) (answer : Result Insertion Refusal) (store : Store) → (is_refused answer ≡ false → Grown (store_of map) store)
       → Unmade (after_insertion map position answer store).mesh
-  after_unmade position (Added opened inferred) store grown = placed_unmade position true store (grown refl)
-  after_unmade position (Torn opened inferred) store grown = placed_unmade position false store (grown refl)
-  after_unmade position (NotAdded refusal) store grown = unmade
+  after_unmade position (Ok (Added opened inferred)) store grown = placed_unmade position true store (grown refl)
+  after_unmade position (Ok (Torn opened inferred)) store grown = placed_unmade position false store (grown refl)
+  after_unmade position (Err refusal) store grown = unmade
 
   module _ (con : ℕ) (d : TmeshDirection) (ratio : Float) (position : Position) where
     insertion_pull : (n : ℕ) → n < 128 → pull_of (add_control_point e map con d ratio position).map n ≡ pull_of map n
@@ -333,8 +332,8 @@ module _ (e : Float) where
     ready_unseen = by_kept map.kept
       where
         by_kept : (kept : Bool)
-            → all_unpulled (cond kept (record { outcome = Done; map = map }) (generate_knot_vectors e map)).map
-            ≡ all_unpulled (cond kept (record { outcome = Done; map = all_unpulled map }) (generate_knot_vectors e (all_unpulled map))).map
+            → all_unpulled (cond kept (record { outcome = Ok tt; map = map }) (generate_knot_vectors e map)).map
+            ≡ all_unpulled (cond kept (record { outcome = Ok tt; map = all_unpulled map }) (generate_knot_vectors e (all_unpulled map))).map
         by_kept true = same_unpulled map
         by_kept false = generated_unseen
 
@@ -354,21 +353,21 @@ module _ (e : Float) where
     ready_told = by_kept map.kept
       where
         by_kept : (kept : Bool)
-            → (cond kept (record { outcome = Done; map = map }) (generate_knot_vectors e map)).outcome
-            ≡ (cond kept (record { outcome = Done; map = all_unpulled map }) (generate_knot_vectors e (all_unpulled map))).outcome
+            → (cond kept (record { outcome = Ok tt; map = map }) (generate_knot_vectors e map)).outcome
+            ≡ (cond kept (record { outcome = Ok tt; map = all_unpulled map }) (generate_knot_vectors e (all_unpulled map))).outcome
         by_kept true = refl
         by_kept false = generated_told
 
     -- what an insertion reads
-    inserted_unseen : (withdrawn : Bool) (position : Position) (answer : InsertAnswer) (store : Store)
+    inserted_unseen : (withdrawn : Bool) (position : Position) (answer : Result Insertion Refusal) (store : Store)
         → all_unpulled (cond withdrawn map (after_insertion map position answer store))
         ≡ all_unpulled (cond withdrawn (all_unpulled map) (after_insertion (all_unpulled map) position answer store))
     inserted_unseen true position answer store = same_unpulled map
-    inserted_unseen false position (Added opened inferred) store =
-        ap (with_places (after_insertion map position (Added opened inferred) store)) (unpulled_set map.mesh.places map.mesh.made (unpulled position))
-    inserted_unseen false position (Torn opened inferred) store =
-        ap (with_places (after_insertion map position (Torn opened inferred) store)) (unpulled_set map.mesh.places map.mesh.made (unpulled position))
-    inserted_unseen false position (NotAdded refusal) store = same_unpulled map
+    inserted_unseen false position (Ok (Added opened inferred)) store =
+        ap (with_places (after_insertion map position (Ok (Added opened inferred)) store)) (unpulled_set map.mesh.places map.mesh.made (unpulled position))
+    inserted_unseen false position (Ok (Torn opened inferred)) store =
+        ap (with_places (after_insertion map position (Ok (Torn opened inferred)) store)) (unpulled_set map.mesh.places map.mesh.made (unpulled position))
+    inserted_unseen false position (Err refusal) store = same_unpulled map
 
     -- but for the pulls, a call leaves what it leaves where each is 1.0, and a setting of one what stood before it
     call_unseen : (call : MapCall)
@@ -394,7 +393,7 @@ module _ (e : Float) where
     call_told_lem (entry (evaluation s t)) other = absurd (false≢true (sym other))
     call_told_lem (entry (set_point_call s t)) other = absurd (false≢true (sym other))
     call_told_lem (entry (question cell)) other =
-        ap (λ (outcome : Outcome). cell_told (cell_answer_by outcome (cell_of (with_knots e map).map.index cell))) ready_told
+        ap (λ (outcome : Result ⊤ Refusal). cell_told (cell_answer_by outcome (cell_of (with_knots e map).map.index cell))) ready_told
         ∙ ap (λ (index : Index). cell_told (cell_answer_by (with_knots e (all_unpulled map)).outcome (cell_of index cell))) (ap (λ (bare : Tmesh). bare.index) ready_unseen)
     call_told_lem (entry (pulling n pull)) other = refl
     call_told_lem generate_knot_vectors_call other = ap outcome_told generated_told

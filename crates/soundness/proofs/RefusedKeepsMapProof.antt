@@ -1,24 +1,20 @@
 -- Refused, a call leaves the map as it was, or, a set-point without weight, as its evaluation has it: each is defined so.
-use Rattle.std.specs.Prelude.{◌≡◌, refl, Bool, true, false, cond, eqb, Float}
+use Rattle.std.specs.Prelude.{◌≡◌, refl, Bool, true, false, cond, eqb, Float, Err, Ok, Result, ⊤}
 use Rattle.std.proofs.Common.{ap, ◌∙◌}
 use Rattle.control_point.specs.Told.{outcome_number}
-use Rattle.control_point.specs.declared.refusal.Outcome.{Outcome}
-use Rattle.control_point.specs.declared.refusal.Outcome.TheVariants.{Done, Refused}
 use Rattle.control_point.specs.declared.refusal.Refusal.TheVariants.{NoWeight}
 use Rattle.store.specs.declared.store.Store.{Store}
 use Rattle.counting.proofs.BoolLaws.{cond_case}
 use Rattle.mirror.proofs.RefusedUnchangedProof.{refused_unchanged}
 use Rattle.insertion.specs.Insert.{answer_number, insert_point}
 use Rattle.insertion.specs.Withdrawal.{is_withdrawn, unless_withdrawn}
-use Rattle.insertion.specs.declared.insertion.InsertAnswer.{InsertAnswer}
-use Rattle.insertion.specs.declared.insertion.InsertAnswer.TheVariants.{Done as Added, Torn, Refused as NotAdded}
+use Rattle.insertion.specs.declared.insertion.Insertion.TheVariants.{Done as Added, Torn}
 use Rattle.knot_vectors.specs.Knots.{AllKnots, all, none, all_knots, keeping, generate_knot_vectors}
 use Rattle.knot_vectors.specs.declared.knots.Generated.{Generated}
 use Rattle.surface.specs.Evaluation.{evaluation_number, value_of, answer_by, with_knots, subs_of}
 use Rattle.surface.specs.SetPoint.{weighty, where_weighty, weighed, set_point}
 use Rattle.surface.proofs.SetPointLaws.{set_point_case}
 use Rattle.surface.specs.declared.evaluation.Evaluation.{Evaluation}
-use Rattle.surface.specs.declared.evaluation.EvaluationAnswer.TheVariants.{Is, Refused as NoValue}
 use Rattle.t_mesh.specs.Insertion.{after_insertion, add_control_point}
 use Rattle.t_mesh.specs.Tmesh.{store_of, with_store, is_listed}
 use Rattle.t_mesh.specs.declared.t_mesh.Position.{Position}
@@ -31,15 +27,17 @@ use Rattle.calls.specs.Calls.{insertion, evaluation, set_point_call, question, p
 use Rattle.calls.proofs.PullingLaws.{setting_case}
 use Rattle.soundness.specs.MapCalls.{entry, generate_knot_vectors_call, point_knot_vectors_call, cast_ray_call, direct}
 use Rattle.soundness.specs.Theorems.{RefusedKeepsMap}
+use Rattle.control_point.specs.declared.refusal.Refusal.{Refusal}
+use Rattle.insertion.specs.declared.insertion.Insertion.{Insertion}
 
 -- an insertion that is not done, and is withdrawn where it is torn
-by_answer : (withdraws : Bool) (map : Tmesh) (position : Position) (answer : InsertAnswer) (store : Store) → (answer_number answer ≡ 0 → ⊥)
+by_answer : (withdraws : Bool) (map : Tmesh) (position : Position) (answer : Result Insertion Refusal) (store : Store) → (answer_number answer ≡ 0 → ⊥)
     → (answer_number answer ≡ 8 → withdraws ≡ true) → unless_withdrawn withdraws answer map (after_insertion map position answer store) ≡ map
-by_answer withdraws map position (Added opened inferred) store done torn = absurd (done refl)
-by_answer withdraws map position (Torn opened inferred) store done torn =
-    ap (λ (rule : Bool). unless_withdrawn rule (Torn opened inferred) map (after_insertion map position (Torn opened inferred) store)) (torn refl)
-by_answer withdraws map position (NotAdded refusal) store done torn =
-    cond_case (is_withdrawn withdraws (NotAdded refusal)) (λ after. after ≡ map) _ _ (λ _. refl) (λ _. refl)
+by_answer withdraws map position (Ok (Added opened inferred)) store done torn = absurd (done refl)
+by_answer withdraws map position (Ok (Torn opened inferred)) store done torn =
+    ap (λ (rule : Bool). unless_withdrawn rule (Ok (Torn opened inferred)) map (after_insertion map position (Ok (Torn opened inferred)) store)) (torn refl)
+by_answer withdraws map position (Err refusal) store done torn =
+    cond_case (is_withdrawn withdraws (Err refusal)) (λ after. after ≡ map) _ _ (λ _. refl) (λ _. refl)
 
 -- a building that is not done
 abbrev Keeps : Tmesh → Generated → Type 0
@@ -55,13 +53,13 @@ unfolding with_knots generate_knot_vectors
 keeps e map = cond_case map.kept (Keeps map) _ _ (λ _ _. refl) (λ _. keeps_built map (all_knots e map))
 
 -- an evaluation and a question answer the number of their building
-number_by : (outcome : Outcome) (value : Evaluation) → evaluation_number (answer_by outcome value) ≡ outcome_number outcome
-number_by Done value = refl
-number_by (Refused refusal) value = refl
+number_by : (outcome : Result ⊤ Refusal) (value : Evaluation) → evaluation_number (answer_by outcome value) ≡ outcome_number outcome
+number_by (Ok tt) value = refl
+number_by (Err refusal) value = refl
 
-words_by : (outcome : Outcome) (words : Cell) → cell_number (cell_answer_by outcome words) ≡ outcome_number outcome
-words_by Done words = refl
-words_by (Refused refusal) words = refl
+words_by : (outcome : Result ⊤ Refusal) (words : Cell) → cell_number (cell_answer_by outcome words) ≡ outcome_number outcome
+words_by (Ok tt) words = refl
+words_by (Err refusal) words = refl
 
 -- a set-point that answers another number than 0: refused 15, the map is as its evaluation has it, and else as it was
 set_point_keeps : (e : Float) (map : Tmesh) (s t : Float)
@@ -75,16 +73,16 @@ set_point_keeps e map s t =
     (λ _ _. refl)
   where
     by_weight : (value : Evaluation) (own : Tmesh) (b : Bool)
-        → let answer = cond b (Is value) (NoValue NoWeight) in
+        → let answer = cond b (Ok value) (Err NoWeight) in
         (evaluation_number answer ≡ 0 → ⊥) → own ≡ cond (eqb (evaluation_number answer) 15) own map
     by_weight value own true done = absurd (done refl)
     by_weight value own false done = refl
 
-    by_outcome : (outcome : Outcome) (own : Tmesh) → ((outcome_number outcome ≡ 0 → ⊥) → own ≡ map)
+    by_outcome : (outcome : Result ⊤ Refusal) (own : Tmesh) → ((outcome_number outcome ≡ 0 → ⊥) → own ≡ map)
         → let answer = weighed (answer_by outcome (value_of own s t)) in
         (evaluation_number answer ≡ 0 → ⊥) → own ≡ cond (eqb (evaluation_number answer) 15) own map
-    by_outcome Done own kept done = by_weight (value_of own s t) own (weighty (value_of own s t)) done
-    by_outcome (Refused refusal) own kept done = cond_case (eqb (outcome_number (Refused refusal)) 15) (λ after. own ≡ after) own map (λ _. refl) (λ _. kept done)
+    by_outcome (Ok tt) own kept done = by_weight (value_of own s t) own (weighty (value_of own s t)) done
+    by_outcome (Err refusal) own kept done = cond_case (eqb (outcome_number (Err refusal)) 15) (λ after. own ≡ after) own map (λ _. refl) (λ _. kept done)
 
 pub refused_keeps_map : RefusedKeepsMap
 unfolding add_control_point subs_of cell_points generate_knot_vectors

@@ -2,20 +2,19 @@
 -- them keep the same for each listed point. Nothing is asked of the index, nor of rows of knots that are not kept. Take any two such maps that lists of calls leave of fresh maps. Then they have the
 -- same index, the same weights at every (s, t) and the same refusals; each call on both, also with different positions, answers the same but for positions and leaves the two alike
 -- again, and so does every list of calls. Two fresh maps of one border weight are alike whatever their corners are, so that for lists on them nothing is asked of a map.
-use Rattle.std.specs.Prelude.{ℕ, ◌≡◌, true, List, [], ◌∷◌, map, Float}
+use Rattle.std.specs.Prelude.{ℕ, ◌≡◌, true, List, [], ◌∷◌, map, Float, Err, Ok, Result}
 use Rattle.float64.specs.Literals.{zero_literal}
 use Rattle.control_point.specs.Told.{Told}
-use Rattle.control_point.specs.declared.refusal.Outcome.TheVariants.{Done}
 use Rattle.calls.specs.Calls.{Call, insertion, evaluation, set_point_call, question, pulling, Answer, inserted, evaluated, questioned, pulled, answer_to}
 use Rattle.cells.specs.Cells.{cell_points}
 use Rattle.surface.specs.Evaluation.{evaluation_number, knots_of, weight_of, total_weight, with_knots}
 use Rattle.surface.specs.SetPoint.{set_point}
-use Rattle.surface.specs.declared.evaluation.EvaluationAnswer.{EvaluationAnswer}
-use Rattle.surface.specs.declared.evaluation.EvaluationAnswer.TheVariants.{Is, Refused}
 use Rattle.t_mesh.specs.Tmesh.{store_of, is_listed, origin, new_tmesh}
 use Rattle.t_mesh.specs.declared.t_mesh.Position.{Position}
 use Rattle.t_mesh.specs.declared.t_mesh.Tmesh.{Tmesh}
 use Rattle.soundness.specs.MapCalls.{MapCall, entry, generate_knot_vectors_call, point_knot_vectors_call, cast_ray_call, direct, after_call, map_after_all, told_to, answer_told}
+use Rattle.control_point.specs.declared.refusal.Refusal.{Refusal}
+use Rattle.surface.specs.declared.evaluation.Evaluation.{Evaluation}
 
 -- ---- maps
 -- the pulls of a map, number by number
@@ -46,9 +45,9 @@ call_without (cast_ray_call n d buffer) = cast_ray_call n d buffer
 call_without (direct call) = direct call
 
 -- an answer with the weight alone of an evaluation's or a set-point's value
-abbrev pub value_without : EvaluationAnswer → EvaluationAnswer
-value_without (Is value) = Is (record { x = zero_literal; y = zero_literal; z = zero_literal; weight = value.weight })
-value_without (Refused refusal) = Refused refusal
+abbrev pub value_without : Result Evaluation Refusal → Result Evaluation Refusal
+value_without (Ok value) = Ok (record { x = zero_literal; y = zero_literal; z = zero_literal; weight = value.weight })
+value_without (Err refusal) = Err refusal
 
 abbrev pub answer_without : Answer → Answer
 answer_without (inserted answer) = inserted answer
@@ -74,10 +73,10 @@ pub record Same (one other : Tmesh) : Type 0 where
   -- the building of knots, and so every evaluation and every question, is refused alike
   pub refusals : (e : Float) → (with_knots e one).outcome ≡ (with_knots e other).outcome
   -- not refused: the index, each listed point's weight, and the total weight
-  pub indices : (e : Float) → (with_knots e one).outcome ≡ Done → (with_knots e one).map.index ≡ (with_knots e other).map.index
-  pub weights : (e : Float) → (with_knots e one).outcome ≡ Done → (s t : Float) (n : ℕ) → is_listed one n ≡ true
+  pub indices : (e : Float) → (with_knots e one).outcome ≡ Ok tt → (with_knots e one).map.index ≡ (with_knots e other).map.index
+  pub weights : (e : Float) → (with_knots e one).outcome ≡ Ok tt → (s t : Float) (n : ℕ) → is_listed one n ≡ true
       → weight_of (with_knots e one).map s t n ≡ weight_of (with_knots e other).map s t n
-  pub totals : (e : Float) → (with_knots e one).outcome ≡ Done → (s t : Float) → total_weight (with_knots e one).map s t ≡ total_weight (with_knots e other).map s t
+  pub totals : (e : Float) → (with_knots e one).outcome ≡ Ok tt → (s t : Float) → total_weight (with_knots e one).map s t ≡ total_weight (with_knots e other).map s t
   -- a set-point is refused alike, and a cell answered alike
   pub set_points : (e s t : Float) → evaluation_number (set_point e one s t).answer ≡ evaluation_number (set_point e other s t).answer
   pub cells : (e : Float) (cell : ℕ) → (cell_points e one cell).answer ≡ (cell_points e other cell).answer

@@ -2,9 +2,8 @@
 -- for each number n below 128 the bit 1 exactly where n is listed and some (s, t) of the cell, f64s, lies within the outer knots kept for point n; no other bits; and as its count
 -- the ones in the two words, which is how many numbers are listed and reach the cell. Of the knots nothing is asked: they may fall, be infinite or NaN. The question may have a
 -- closeness other than the list's.
-use Rattle.std.specs.Prelude.{ℕ, ◌<◌, ◌≡◌, true, Float}
+use Rattle.std.specs.Prelude.{ℕ, ◌<◌, ◌≡◌, true, Float, Ok}
 use Rattle.cells.specs.Cells.{cell_points}
-use Rattle.cells.specs.declared.CellAnswer.TheVariants.{Is}
 use Rattle.grid_index.specs.CellTheorem.{Says}
 use Rattle.grid_index.specs.Index.{index_of}
 use Rattle.grid_index.specs.declared.Cell.{Cell}
@@ -20,5 +19,5 @@ EveryAnswerSays =
     (λ map.
     (e : Float) (cell : ℕ) (words : Cell)
     → cell < 256
-    → (cell_points e map cell).answer ≡ Is words
+    → (cell_points e map cell).answer ≡ Ok words
     → Says map.mesh.listed (cell_points e map cell).map.knots cell words)

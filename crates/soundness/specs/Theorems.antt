@@ -2,7 +2,7 @@
 -- of cells, settings of pulls, buildings of knots, rays and direct calls on a fresh map of any border weight and corners, with any closeness and any arguments, calls
 -- refused, torn or withdrawn among them. Of the maps that they leave is said that links are mirrored and how they are counted, what is listed, that no
 -- connect of an insertion fails, and where 11 is answered; the call that is spoken of may have a closeness other than the list's.
-use Rattle.std.specs.Prelude.{ℕ, ◌<◌, ◌*◌, ◌≡◌, true, false, cond, not, ◌&&◌, ◌||◌, List, [], ◌∷◌, ◌⊎◌, eqb, Float}
+use Rattle.std.specs.Prelude.{ℕ, ◌<◌, ◌*◌, ◌≡◌, true, false, cond, not, ◌&&◌, ◌||◌, List, [], ◌∷◌, ◌⊎◌, eqb, Float, Err, Ok}
 use Rattle.std.specs.Float.{inf}
 use Rattle.float64.specs.Literals.{one_literal}
 use Rattle.control_point.specs.Point.{is_link}
@@ -12,7 +12,6 @@ use Rattle.control_point.specs.declared.t_mesh_direction.TmeshDirection.TheVaria
 use Rattle.mirror.specs.Calls.{Call as Direct, connect, remove_connection_call, run_calls}
 use Rattle.calls.specs.ExampleValues.{half}
 use Rattle.control_point.specs.Direction.{clockwise_of, anti_clockwise_of}
-use Rattle.control_point.specs.declared.refusal.Outcome.TheVariants.{Done}
 use Rattle.control_point.specs.Refusal.{refusal_number}
 use Rattle.control_point.specs.declared.refusal.Refusal.{Refusal}
 use Rattle.control_point.specs.declared.refusal.Refusal.TheVariants.{NoPoint}
@@ -25,16 +24,13 @@ use Rattle.insertion.specs.Insert.{insert_told, is_refused, near_joined, far_joi
 use Rattle.insertion.specs.declared.insertion.NewSide.{NewSide}
 use Rattle.insertion.specs.declared.insertion.NewSide.TheVariants.{Takes, Joins, Opens, Tears, Stays}
 use Rattle.insertion.specs.declared.insertion.Inserted.{Inserted}
-use Rattle.search.specs.declared.search.Found.TheVariants.{Failed}
 use Rattle.t_mesh.specs.Insertion.{add_control_point}
 use Rattle.t_mesh.specs.Tmesh.{store_of, with_store, is_listed, new_tmesh}
 use Rattle.t_mesh.specs.declared.t_mesh.Position.{Position}
 use Rattle.t_mesh.specs.declared.t_mesh.Tmesh.{Tmesh}
 use Rattle.surface.specs.Evaluation.{evaluation_number, with_knots, subs_of}
 use Rattle.surface.specs.SetPoint.{on_map, set_point}
-use Rattle.surface.specs.declared.evaluation.EvaluationAnswer.TheVariants.{Refused as NoValue}
 use Rattle.cells.specs.Cells.{cell_points}
-use Rattle.cells.specs.declared.CellAnswer.TheVariants.{Refused as NoWords}
 use Rattle.census.specs.Census.{sides_that, counts_of}
 use Rattle.soundness.specs.MapCalls.{MapCall, generate_knot_vectors_call, direct, map_call_withdraws, after_call, map_after_all, directs, adds_point, number_to, asks_set_point, points_made}
 
@@ -100,7 +96,7 @@ OnlyDoneDrops =
 -- a side of p that joins another point does so by a connect that is done
 abbrev pub Connects : Store → ℕ → TmeshDirection → NewSide → Type 0
 Connects store p f (Takes weight) = Unit {0}
-Connects store p f (Joins n interval) = (connect_points (with_side_at store p f Opening) p n f interval).outcome ≡ Done
+Connects store p f (Joins n interval) = (connect_points (with_side_at store p f Opening) p n f interval).outcome ≡ Ok tt
 Connects store p f Opens = Unit {0}
 Connects store p f Tears = Unit {0}
 Connects store p f Stays = Unit {0}
@@ -112,8 +108,8 @@ pub record Placing (e : Float) (store : Store) (con : ℕ) (d : TmeshDirection) 
   pub interval : Float
   pub link : store_sides store con d ≡ Link other interval
   pub is : result ≡ sided e (placed store con other d interval ratio) con store.made d
-  pub near : (near_joined store con other d interval ratio).outcome ≡ Done
-  pub far : (far_joined store con other d interval ratio).outcome ≡ Done
+  pub near : (near_joined store con other d interval ratio).outcome ≡ Ok tt
+  pub far : (far_joined store con other d interval ratio).outcome ≡ Ok tt
   pub first : Connects (placed store con other d interval ratio)
       store.made
       (clockwise_of d)
@@ -146,13 +142,13 @@ pub record Seeking (e : Float) (store : Store) (con : ℕ) (d : TmeshDirection) 
       (placed store con other d interval ratio).made
       store.made
       (clockwise_of d)
-      ≡ Failed NoPoint → ⊥
+      ≡ Err NoPoint → ⊥
   pub second : sought e
       (store_sides (with_first e (placed store con other d interval ratio) con store.made d))
       (placed store con other d interval ratio).made
       store.made
       (anti_clockwise_of d)
-      ≡ Failed NoPoint → ⊥
+      ≡ Err NoPoint → ⊥
 
 -- where 11 is met on a map: a call answers it where a point that it is given was never made, and nowhere else, so that an insertion, an
 -- evaluation, a set-point, a question and the building of all knots never do, nor a walk, a ray, the knots or the setting of the pull of a made point; and no search of an insertion fails by it
@@ -176,7 +172,7 @@ OneOf n (m ∷ rest) = (n ≡ m) ⊎ OneOf n rest
 abbrev pub EvaluationRefusals : Type 0
 EvaluationRefusals =
     EveryMap
-    (λ map. (e s t : Float) (refusal : Refusal) → (subs_of e map s t).answer ≡ NoValue refusal → OneOf (refusal_number refusal) (3 ∷ (4 ∷ (9 ∷ []))))
+    (λ map. (e s t : Float) (refusal : Refusal) → (subs_of e map s t).answer ≡ Err refusal → OneOf (refusal_number refusal) (3 ∷ (4 ∷ (9 ∷ []))))
 
 -- A set-point answers 0, 3, 4, 9, 15 or 20, and 20 exactly where s or t does not lie from 0 to 1.
 abbrev pub SetPointNumbers : Type 0
@@ -190,9 +186,9 @@ SetPointNumbers =
 abbrev pub QuestionRefusals : Type 0
 QuestionRefusals =
     EveryMap
-    (λ map. (e : Float) (cell : ℕ) (refusal : Refusal) → (cell_points e map cell).answer ≡ NoWords refusal → OneOf (refusal_number refusal) (3 ∷ (4 ∷ (9 ∷ []))))
+    (λ map. (e : Float) (cell : ℕ) (refusal : Refusal) → (cell_points e map cell).answer ≡ Err refusal → OneOf (refusal_number refusal) (3 ∷ (4 ∷ (9 ∷ []))))
 
--- ---- document 01's reading: 0 Right cut, rejoined at infinity, ratio 0.5: 6
+-- ---- a reading: 0 Right cut, rejoined at infinity, ratio 0.5: 6
 abbrev pub rejoined : List MapCall
 rejoined = direct (remove_connection_call 0 Right) ∷ (direct (connect 0 1 Right (inf false)) ∷ [])
 

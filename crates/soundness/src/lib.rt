@@ -1,2 +1,2 @@
-// That every list of calls leaves a sound map: definitions, statements and proofs in specs/, and no function.
+// That every list of calls leaves a sound map: definitions and statements in specs/, proofs in proofs/, and no function.
 #![tactic(auto)]

@@ -1,5 +1,5 @@
--- Laws of the direct calls: each tells what its table says, and a call that is done leaves the sides that document 01 names.
-use Rattle.std.specs.Prelude.{ℕ, ◌<◌, ◌≡◌, Bool, not, cond, ◌&&◌, ◌||◌, [], ◌∷◌, Float, length}
+-- Laws of the direct calls: each tells what its table says, and a call that is done leaves the sides that it is to leave.
+use Rattle.std.specs.Prelude.{ℕ, ◌<◌, ◌≡◌, Bool, not, cond, ◌&&◌, ◌||◌, [], ◌∷◌, Float, length, Err, Ok, Result, ⊤}
 use Rattle.std.proofs.Math.Path.{refl}
 use Rattle.std.proofs.Common.{sym, ap, ◌∙◌, arith, eq-eqb, ltb-true, get_or-set_same}
 use Rattle.std.proofs.Math.Bool.{true, false}
@@ -12,11 +12,8 @@ use Rattle.control_point.specs.Point.{is_made, is_link, is_border, is_opening, s
 use Rattle.control_point.proofs.PointLaws.{is_made_room}
 use Rattle.control_point.specs.Sides.{Sides, linked_of}
 use Rattle.control_point.specs.Told.{outcome_told, side_told, side as sideValue, tells, unless}
-use Rattle.control_point.specs.declared.refusal.Outcome.{Outcome}
-use Rattle.control_point.specs.declared.refusal.Outcome.TheVariants.{Done, Refused}
 use Rattle.control_point.specs.declared.refusal.Refusal.{Refusal}
 use Rattle.control_point.specs.declared.refusal.Refusal.TheVariants.{OpenSide, Taken, Itself, Full, NoPoint}
-use Rattle.control_point.specs.declared.sides.SideAnswer.TheVariants.{Is as SideIs, Refused as SideRefused}
 use Rattle.control_point.specs.declared.t_mesh_direction.TmeshDirection.{TmeshDirection}
 use Rattle.control_point.specs.declared.t_mesh_direction.TmeshDirection.TheVariants.{Up, Right, Down, Left}
 use Rattle.control_point.specs.declared.t_mesh_control_point.Side.{Side}
@@ -25,11 +22,10 @@ use Rattle.control_point.specs.declared.t_mesh_control_point.TmeshControlPoint.{
 use Rattle.store.specs.Store.{store_sides, store_point, with_point, with_side_at, with_new, linked, done, refused, settled, opened, weighted, coordinated, all_borders, make_loose, connect_points, remove_connection, remove_edge_condition, set_edge_con_weight, set_knot_coordinates, read_side, read_point, point_values, point_told}
 use Rattle.store.proofs.StoreLaws.{side_read, sides_side, sides_opened_lem, sides_linked}
 use Rattle.store.specs.Tables.{make_loose_table, connect_table, remove_connection_table, remove_edge_condition_table, set_edge_con_weight_table, set_knot_coordinates_table, read_side_table, read_point_table}
-use Rattle.store.specs.declared.store.PointAnswer.TheVariants.{Is as PointIs, Refused as PointRefused}
 use Rattle.store.specs.declared.store.Store.{Store}
 
 -- a refusal is not done
-pub refused_not : {A : Type 0} (refusal : Refusal) → Refused refusal ≡ Done → A
+pub refused_not : {A : Type 0} (refusal : Refusal) → ◌≡◌ {A = Result ⊤ Refusal} (Err refusal) (Ok tt) → A
 refused_not refusal h = let z : ◌≡◌ {A = ℕ} 0 1 = cc in absurd (omega arith)
 
 -- a side that was set stands there
@@ -66,12 +62,12 @@ module _ (store : Store) (weight : Float) where
           (ap (λ (p : TmeshControlPoint). p.s) new, ap (λ (p : TmeshControlPoint). p.t) new),
         )
 
-    pub loose_borders : (make_loose store weight).outcome ≡ Done → Loose (make_loose store weight).store
+    pub loose_borders : (make_loose store weight).outcome ≡ Ok tt → Loose (make_loose store weight).store
     unfolding make_loose
     loose_borders = by_test (ltb store.made 128) refl
       where
         by_test : (free : Bool) → ltb store.made 128 ≡ free
-            → (cond free (done (with_new store (loose_point weight))) (refused store Full)).outcome ≡ Done
+            → (cond free (done (with_new store (loose_point weight))) (refused store Full)).outcome ≡ Ok tt
             → Loose (cond free (done (with_new store (loose_point weight))) (refused store Full)).store
         by_test true l h = loose (ltb-true store.made 128 l)
         by_test false l h = refused_not Full h
@@ -81,8 +77,8 @@ module _ (store : Store) (first other : ℕ) (d : TmeshDirection) (interval : Fl
   abbrev facing : Bool
   facing = is_opening (store_sides store first d) && is_opening (store_sides store other (flip_of d))
 
-  abbrev asked : Bool → Bool → Bool → Bool → Outcome
-  asked a b same free = cond (a && b) (cond same (Refused Itself) (cond free Done (Refused Taken))) (Refused NoPoint)
+  abbrev asked : Bool → Bool → Bool → Bool → Result ⊤ Refusal
+  asked a b same free = cond (a && b) (cond same (Err Itself) (cond free (Ok tt) (Err Taken))) (Err NoPoint)
 
   told_by : (a b same free : Bool) (new : Store) → outcome_told (settled (asked a b same free) new store).outcome ≡ unless 11 (a && b) (unless 7 (not same) (unless 5 free (tells [])))
   told_by true true true free new = refl
@@ -107,12 +103,12 @@ module _ (store : Store) (first other : ℕ) (d : TmeshDirection) (interval : Fl
           ap (λ (sides : Sides). sides other (flip_of d)) same ∙ simp (eq-eqb other other refl, same_self (flip_of d)),
         )
 
-    pub connect_links : (connect_points store first other d interval).outcome ≡ Done → Linked (connect_points store first other d interval).store
+    pub connect_links : (connect_points store first other d interval).outcome ≡ Ok tt → Linked (connect_points store first other d interval).store
     unfolding connect_points connectable
     connect_links = by_tests (is_made store.made first) (is_made store.made other) (eqb first other) facing refl refl refl
       where
         by_tests : (a b same free : Bool) → is_made store.made first ≡ a → is_made store.made other ≡ b → eqb first other ≡ same
-            → (settled (asked a b same free) (linked store first other d interval) store).outcome ≡ Done
+            → (settled (asked a b same free) (linked store first other d interval) store).outcome ≡ Ok tt
             → Linked (settled (asked a b same free) (linked store first other d interval) store).store
         by_tests true true true free x y s h = refused_not Itself h
         by_tests true true false true x y s h = links (is_made_room store.made first x) (is_made_room store.made other y) s
@@ -158,18 +154,18 @@ module _ (store : Store) (n : ℕ) (d : TmeshDirection) where
               ∙ simp (eq-eqb m m refl, same_self (flip_of d)),
         )
 
-    pub removed_opens : (remove_connection store n d).outcome ≡ Done → Opened (remove_connection store n d).store
+    pub removed_opens : (remove_connection store n d).outcome ≡ Ok tt → Opened (remove_connection store n d).store
     unfolding remove_connection
     removed_opens = by_tests (is_made store.made n) (side_of (store_point store n) d) refl refl
       where
         linked_on : (m : ℕ) (interval : Float) (far : Bool) → is_made store.made m ≡ far → n < 128 → store_sides store n d ≡ Link m interval
-            → (cond far (done (with_side_at (with_side_at store n d Opening) m (flip_of d) Opening)) (refused store NoPoint)).outcome ≡ Done
+            → (cond far (done (with_side_at (with_side_at store n d Opening) m (flip_of d) Opening)) (refused store NoPoint)).outcome ≡ Ok tt
             → Opened (cond far (done (with_side_at (with_side_at store n d Opening) m (flip_of d) Opening)) (refused store NoPoint)).store
         linked_on m interval true f l e h = both_ends m interval l (is_made_room store.made m f) e
         linked_on m interval false f l e h = refused_not NoPoint h
 
         by_tests : (made : Bool) (side : Side) → is_made store.made n ≡ made → side_of (store_point store n) d ≡ side
-            → (cond made (opened store n d side) (refused store NoPoint)).outcome ≡ Done
+            → (cond made (opened store n d side) (refused store NoPoint)).outcome ≡ Ok tt
             → Opened (cond made (opened store n d side) (refused store NoPoint)).store
         by_tests true (Link m interval) x e h =
             let l = is_made_room store.made n x in
@@ -192,12 +188,12 @@ module _ (store : Store) (n : ℕ) (d : TmeshDirection) where
   unfolding remove_edge_condition
   edge_told = taken_by (with_side_at store n d Opening) store (is_made store.made n) (is_border (side_of (store_point store n) d))
 
-  pub edge_opens : length store.points ≡ 128 → (remove_edge_condition store n d).outcome ≡ Done → store_sides (remove_edge_condition store n d).store n d ≡ Opening
+  pub edge_opens : length store.points ≡ 128 → (remove_edge_condition store n d).outcome ≡ Ok tt → store_sides (remove_edge_condition store n d).store n d ≡ Opening
   unfolding remove_edge_condition
   edge_opens room = by_tests (is_made store.made n) (is_border (side_of (store_point store n) d)) refl
     where
       by_tests : (made border : Bool) → is_made store.made n ≡ made
-          → (cond made (cond border (done (with_side_at store n d Opening)) (refused store Taken)) (refused store NoPoint)).outcome ≡ Done
+          → (cond made (cond border (done (with_side_at store n d Opening)) (refused store Taken)) (refused store NoPoint)).outcome ≡ Ok tt
           → store_sides (cond made (cond border (done (with_side_at store n d Opening)) (refused store Taken)) (refused store NoPoint)).store n d ≡ Opening
       by_tests true true x h = side_there store room n (is_made_room store.made n x) d Opening
       by_tests true false x h = refused_not Taken h
@@ -215,12 +211,12 @@ module _ (store : Store) (n : ℕ) (d : TmeshDirection) (weight : Float) where
   unfolding set_edge_con_weight
   weight_told = weight_by_lem (is_made store.made n) (side_of (store_point store n) d)
 
-  pub weight_border : length store.points ≡ 128 → (set_edge_con_weight store n d weight).outcome ≡ Done → store_sides (set_edge_con_weight store n d weight).store n d ≡ Border weight
+  pub weight_border : length store.points ≡ 128 → (set_edge_con_weight store n d weight).outcome ≡ Ok tt → store_sides (set_edge_con_weight store n d weight).store n d ≡ Border weight
   unfolding set_edge_con_weight
   weight_border room = by_tests (is_made store.made n) (side_of (store_point store n) d) refl
     where
       by_tests : (made : Bool) (side : Side) → is_made store.made n ≡ made
-          → (cond made (weighted store n d weight side) (refused store NoPoint)).outcome ≡ Done
+          → (cond made (weighted store n d weight side) (refused store NoPoint)).outcome ≡ Ok tt
           → store_sides (cond made (weighted store n d weight side) (refused store NoPoint)).store n d ≡ Border weight
       by_tests true (Border old) m h = side_there store room n (is_made_room store.made n m) d (Border weight)
       by_tests true (Link k interval) m h = refused_not Taken h
@@ -237,13 +233,13 @@ module _ (store : Store) (n : ℕ) (s t : Float) where
 pub side_told_lem : (store : Store) (n : ℕ) (d : TmeshDirection) → side_told (read_side store n d) ≡ read_side_table store n d
 side_told_lem store n d = by_test (is_made store.made n)
   where
-    by_test : (made : Bool) → side_told (cond made (SideIs (store_sides store n d)) (SideRefused NoPoint)) ≡ unless 11 made (tells (sideValue (store_sides store n d) ∷ []))
+    by_test : (made : Bool) → side_told (cond made (Ok (store_sides store n d)) (Err NoPoint)) ≡ unless 11 made (tells (sideValue (store_sides store n d) ∷ []))
     by_test true = refl
     by_test false = refl
 
 pub point_told_lem : (store : Store) (n : ℕ) → point_told (read_point store n) ≡ read_point_table store n
 point_told_lem store n = by_test (is_made store.made n)
   where
-    by_test : (made : Bool) → point_told (cond made (PointIs (store_point store n)) (PointRefused NoPoint)) ≡ unless 11 made (tells (point_values (store_point store n)))
+    by_test : (made : Bool) → point_told (cond made (Ok (store_point store n)) (Err NoPoint)) ≡ unless 11 made (tells (point_values (store_point store n)))
     by_test true = refl
     by_test false = refl

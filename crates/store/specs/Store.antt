@@ -1,6 +1,6 @@
 -- A store of points, numbered from 0 as made; none is deleted. Each call on it is one definition here: what it answers and the store
 -- after it, for all arguments. A number never made is 11, before all else; a refused call leaves the store as it was.
-use Rattle.std.specs.Prelude.{ℕ, ◌+◌, Bool, cond, ◌&&◌, List, [], ◌∷◌, ltb, Float, set, replicate}
+use Rattle.std.specs.Prelude.{ℕ, ◌+◌, Bool, cond, ◌&&◌, List, [], ◌∷◌, ltb, Float, set, replicate, Err, Ok, Result, ⊤}
 use Rattle.float64.specs.Literals.{zero_literal}
 use Rattle.control_point.specs.Connect.{connectable}
 use Rattle.control_point.specs.Direction.{flip_of}
@@ -8,20 +8,15 @@ use Rattle.control_point.specs.Point.{side_of, with_side, moved_from, loose_poin
 use Rattle.control_point.specs.Sides.{Sides, sides_of, side_at}
 use Rattle.control_point.specs.Told.{Told, Value, float, side as sideValue, tells, refusal_told}
 use Rattle.navigation.specs.Walk.{walk_of}
-use Rattle.control_point.specs.declared.refusal.Outcome.{Outcome}
-use Rattle.control_point.specs.declared.refusal.Outcome.TheVariants.{Done, Refused}
 use Rattle.control_point.specs.declared.refusal.Refusal.{Refusal}
 use Rattle.control_point.specs.declared.refusal.Refusal.TheVariants.{OpenSide, Taken, Full, NoPoint}
-use Rattle.control_point.specs.declared.sides.SideAnswer.{SideAnswer}
 use Rattle.control_point.specs.declared.t_mesh_direction.TmeshDirection.{TmeshDirection}
 use Rattle.control_point.specs.declared.t_mesh_control_point.Side.{Side}
 use Rattle.control_point.specs.declared.t_mesh_control_point.Side.TheVariants.{Link, Border, Opening}
 use Rattle.control_point.specs.declared.t_mesh_control_point.TmeshControlPoint.{TmeshControlPoint}
-use Rattle.navigation.specs.declared.walk.Walk.{Walk}
 use Rattle.store.specs.declared.store.Store.{Store}
 use Rattle.store.specs.declared.store.Changed.{Changed}
-use Rattle.store.specs.declared.store.PointAnswer.{PointAnswer}
-use Rattle.store.specs.declared.store.PointAnswer.TheVariants.{Is, Refused as NoneRead}
+use Rattle.navigation.specs.declared.walk.Walk.{Walk}
 
 -- ---- a store and its changes
 -- the sides of a store's points
@@ -53,15 +48,15 @@ linked store first other d interval =
 
 -- ---- answers
 abbrev pub done : Store → Changed
-done store = record { outcome = Done; store = store }
+done store = record { outcome = Ok tt; store = store }
 
 abbrev pub refused : Store → Refusal → Changed
-refused store refusal = record { outcome = Refused refusal; store = store }
+refused store refusal = record { outcome = Err refusal; store = store }
 
 -- the new store where a test was passed, the old one where it was refused
-abbrev pub settled : Outcome → Store → Store → Changed
-settled Done new old = done new
-settled (Refused refusal) new old = refused old refusal
+abbrev pub settled : Result ⊤ Refusal → Store → Store → Changed
+settled (Ok tt) new old = done new
+settled (Err refusal) new old = refused old refusal
 
 -- a call on one point: 11 where it was never made
 abbrev pub on_point : Store → ℕ → (TmeshControlPoint → Changed) → Changed
@@ -118,19 +113,19 @@ set_knot_coordinates store n s t =
     on_point store n (λ p. cond (all_borders p) (done (with_point store n (coordinated p s t))) (refused store Taken))
 
 -- ---- reading
-abbrev pub navigate_until_con : Store → ℕ → TmeshDirection → TmeshDirection → Walk
+abbrev pub navigate_until_con : Store → ℕ → TmeshDirection → TmeshDirection → Result Walk Refusal
 navigate_until_con store start travel watch = walk_of (store_sides store) store.made start travel watch
 
-abbrev pub read_side : Store → ℕ → TmeshDirection → SideAnswer
+abbrev pub read_side : Store → ℕ → TmeshDirection → Result Side Refusal
 read_side store n d = side_at (store_sides store) store.made n d
 
-abbrev pub read_point : Store → ℕ → PointAnswer
-read_point store n = cond (is_made store.made n) (Is (store_point store n)) (NoneRead NoPoint)
+abbrev pub read_point : Store → ℕ → Result TmeshControlPoint Refusal
+read_point store n = cond (is_made store.made n) (Ok (store_point store n)) (Err NoPoint)
 
 -- what a point read tells: its coordinates across and upwards, then its sides up, right, down and left; or the refusal's number
 abbrev pub point_values : TmeshControlPoint → List Value
 point_values p = float p.s ∷ (float p.t ∷ (sideValue p.up ∷ (sideValue p.right ∷ (sideValue p.down ∷ (sideValue p.left ∷ [])))))
 
-abbrev pub point_told : PointAnswer → Told
-point_told (Is p) = tells (point_values p)
-point_told (NoneRead refusal) = refusal_told refusal
+abbrev pub point_told : Result TmeshControlPoint Refusal → Told
+point_told (Ok p) = tells (point_values p)
+point_told (Err refusal) = refusal_told refusal

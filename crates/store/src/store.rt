@@ -1,16 +1,15 @@
 // The store of up to 128 points: making one, reading, and storing a point anew.
-ghost use Rattle.std.specs.Prelude.{◌≡◌, cond, ◌<◌};
+ghost use Rattle.std.specs.Prelude.{◌≡◌, cond, ◌<◌, Ok};
 ghost use Rattle.control_point.specs.Point.{minus_one};
 ghost use Rattle.control_point.specs.Told.{outcome_told, side_told};
-ghost use Rattle.control_point.specs.declared.refusal.Outcome.TheVariants.{Done};
 ghost use Rattle.control_point.specs.declared.t_mesh_control_point.Side.TheVariants.{Border};
 ghost use Rattle.control_point.specs.declared.t_mesh_direction.TmeshDirection.{TmeshDirection};
 ghost use Rattle.store.specs.Store.{empty_store, make_loose, read_point, read_side, store_sides, store_point, with_point, done, refused, point_told};
 ghost use Rattle.store.specs.Tables.{make_loose_table, read_point_table, read_side_table};
 
-use control_point::refusal::{Outcome, Refusal};
-use control_point::sides::{SideAnswer, wide};
-use control_point::t_mesh_control_point::{TmeshControlPoint, is_made, loose_point, side_of};
+use control_point::refusal::Refusal;
+use control_point::sides::wide;
+use control_point::t_mesh_control_point::{Side, TmeshControlPoint, is_made, loose_point, side_of};
 use control_point::t_mesh_direction::TmeshDirection;
 
 // The first so many points are made.
@@ -23,15 +22,8 @@ pub struct Store {
 // What came of a call, and the store after it.
 #[derive(Clone, Copy)]
 pub struct Changed {
-    pub outcome: Outcome,
+    pub outcome: Result<(), Refusal>,
     pub store: Store,
-}
-
-// A point read.
-#[derive(Clone, Copy)]
-pub enum PointAnswer {
-    Is(TmeshControlPoint),
-    Refused(Refusal),
 }
 
 // No point made.
@@ -49,13 +41,13 @@ pub fn empty_store() -> Store
 pub fn make_loose(store: Store, weight: f64) -> Changed
     ensures is { result ≡ make_loose store weight }
     ensures told { outcome_told result.outcome ≡ make_loose_table store }
-    ensures borders { result.outcome ≡ Done → ((d : TmeshDirection) → store_sides result.store store.made d ≡ Border weight)
+    ensures borders { result.outcome ≡ Ok tt → ((d : TmeshDirection) → store_sides result.store store.made d ≡ Border weight)
         × (((store_point result.store store.made).s ≡ minus_one) × ((store_point result.store store.made).t ≡ minus_one)) }
 {
     let made = store.made;
     if 128 <= made {
         return Changed {
-            outcome: Outcome::Refused(Refusal::Full),
+            outcome: Err(Refusal::Full),
             store,
         };
     }
@@ -63,7 +55,7 @@ pub fn make_loose(store: Store, weight: f64) -> Changed
     next.points[wide(made)] = loose_point(weight);
     next.made = made + 1;
     Changed {
-        outcome: Outcome::Done,
+        outcome: Ok(()),
         store: next,
     }
 }
@@ -86,28 +78,24 @@ pub fn with_point(store: Store, n: u8, point: TmeshControlPoint) -> Store
     next
 }
 
-pub fn read_point(store: Store, n: u8) -> PointAnswer
+pub fn read_point(store: Store, n: u8) -> Result<TmeshControlPoint, Refusal>
     ensures is { result ≡ read_point store n }
     ensures told { point_told result ≡ read_point_table store n }
 {
     let made = store.made;
     if is_made(made, n) {
-        PointAnswer::Is(point_at(store, n))
+        Ok(point_at(store, n))
     } else {
-        PointAnswer::Refused(Refusal::NoPoint)
+        Err(Refusal::NoPoint)
     }
 }
 
-pub fn read_side(store: Store, n: u8, direction: TmeshDirection) -> SideAnswer
+pub fn read_side(store: Store, n: u8, direction: TmeshDirection) -> Result<Side, Refusal>
     ensures is { result ≡ read_side store n direction }
     ensures told { side_told result ≡ read_side_table store n direction }
 {
-    let made = store.made;
-    if is_made(made, n) {
-        SideAnswer::Is(side_of(point_at(store, n), direction))
-    } else {
-        SideAnswer::Refused(Refusal::NoPoint)
-    }
+    let point = read_point(store, n)?;
+    Ok(side_of(point, direction))
 }
 
 // The point stored under a number where a test was passed, the refusal where not.
@@ -123,12 +111,12 @@ pub fn settle(
 {
     if !passed {
         return Changed {
-            outcome: Outcome::Refused(refusal),
+            outcome: Err(refusal),
             store,
         };
     }
     Changed {
-        outcome: Outcome::Done,
+        outcome: Ok(()),
         store: with_point(store, n, point),
     }
 }

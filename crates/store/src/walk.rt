@@ -5,7 +5,8 @@ ghost use Rattle.navigation.specs.Walk.{walk_told};
 ghost use Rattle.store.specs.Store.{navigate_until_con, store_sides};
 
 use crate::store::Store;
-use control_point::sides::fill;
+use control_point::refusal::Refusal;
+use control_point::sides::LentSides;
 use control_point::t_mesh_direction::TmeshDirection;
 use navigation::walk::{Walk, navigate};
 
@@ -15,15 +16,12 @@ pub fn navigate_until_con(
     start: u8,
     travel: TmeshDirection,
     watch: TmeshDirection,
-) -> Walk
+) -> Result<Walk, Refusal>
     ensures is { result ≡ navigate_until_con store start travel watch }
     ensures told { walk_told result ≡ walk_table (store_sides store) store.made start travel watch }
 {
     let made = store.made;
     let points = store.points;
-    let mut kinds = [0u8; 512];
-    let mut numbers = [0u8; 512];
-    let mut intervals = [0.0; 512];
-    fill(&mut kinds, &mut numbers, &mut intervals, points);
-    navigate(&kinds, &numbers, &intervals, made, start, travel, watch)
+    let sides = LentSides::of_points(points);
+    navigate(&sides, made, start, travel, watch)
 }

@@ -1,18 +1,18 @@
 -- A stored call on a store: a byte for its kind, its arguments, and the answer that it must give. oracle/README.md has the table of kinds.
 -- A call's bytes are the list from its first byte on; whatever stands behind them is not read.
-use Rattle.std.specs.Prelude.{ℕ, ◌+◌, Bool, cond, ◌&&◌, List, eqb}
+use Rattle.std.specs.Prelude.{ℕ, ◌+◌, Bool, cond, ◌&&◌, List, eqb, Err, Ok, Result}
 use Rattle.control_point.specs.Direction.{direction_numbered}
 use Rattle.control_point.specs.Refusal.{refusal_number}
-use Rattle.control_point.specs.Told.{outcome_number}
+use Rattle.control_point.specs.Told.{number_of}
 use Rattle.control_point.specs.declared.t_mesh_direction.TmeshDirection.{TmeshDirection}
-use Rattle.navigation.specs.declared.walk.Walk.{Walk}
-use Rattle.navigation.specs.declared.walk.Walk.TheVariants.{Reached, Refused}
 use Rattle.store.specs.Store.{make_loose, connect_points, remove_connection, remove_edge_condition, set_edge_con_weight, set_knot_coordinates, navigate_until_con}
 use Rattle.store.specs.declared.store.Changed.{Changed}
 use Rattle.store.specs.declared.store.Store.{Store}
 use Rattle.big_endian.specs.BigEndian.{byte_at, number_at, float_at}
 use Rattle.stored_calls.specs.Points.{has_bits}
 use Rattle.stored_calls.specs.declared.call.Replayed.{Replayed}
+use Rattle.control_point.specs.declared.refusal.Refusal.{Refusal}
+use Rattle.navigation.specs.declared.walk.Walk.{Walk}
 
 -- the direction whose number stands at a place
 abbrev pub direction_at : List ℕ → ℕ → TmeshDirection
@@ -36,15 +36,15 @@ answer_place kind = cond (eqb kind 0) 9 (cond (eqb kind 1) 12 (cond (eqb kind 2)
 unfoldable pub settled : Changed → List ℕ → ℕ → Replayed
 settled changed call place = record {
   store = changed.store;
-  right = eqb (outcome_number changed.outcome) (byte_at call place);
+  right = eqb (number_of changed.outcome) (byte_at call place);
   bytes = place + 1;
 }
 
 -- whether a walk answered a number, and of one that was not refused the point, the moves and the bits of the sum
-unfoldable pub walk_is_right : Walk → ℕ → ℕ → ℕ → ℕ → Bool
-walk_is_right (Reached reached sum made) number point moves bits =
-    (eqb number 0 && eqb point reached) && (eqb moves made && has_bits sum bits)
-walk_is_right (Refused refusal) number point moves bits = eqb number (refusal_number refusal)
+unfoldable pub walk_is_right : Result Walk Refusal → ℕ → ℕ → ℕ → ℕ → Bool
+walk_is_right (Ok walk) number point moves bits =
+    (eqb number 0 && eqb point walk.at) && (eqb moves walk.moves && has_bits walk.sum bits)
+walk_is_right (Err refusal) number point moves bits = eqb number (refusal_number refusal)
 
 -- how many bytes a stored walk takes: more, where a point was reached
 abbrev pub walk_bytes : ℕ → ℕ

@@ -5,6 +5,7 @@ ghost use Rattle.stored_calls.specs.Call.{direction_at, change, answer_place, se
 use crate::points::{both, has_bits};
 use big_endian::{byte_at, float_at, number_at};
 use connection::connect::connect;
+use control_point::refusal::{Refusal, number_of};
 use control_point::t_mesh_direction::TmeshDirection;
 use disconnection::remove::remove_connection;
 use edge::coordinates::set_knot_coordinates;
@@ -75,7 +76,7 @@ fn settle(changed: Changed, call: &[u8], place: usize) -> Replayed
 {
     let outcome = changed.outcome;
     let store = changed.store;
-    let right = outcome.number() == byte_at(call, place);
+    let right = number_of(&outcome) == byte_at(call, place);
     let bytes = place + 1;
     Replayed {
         store,
@@ -85,17 +86,15 @@ fn settle(changed: Changed, call: &[u8], place: usize) -> Replayed
 }
 
 // Whether a walk answered a number, and of one that was not refused the point, the moves and the bits of the sum.
-fn walk_is_right(walk: Walk, number: u8, point: u8, moves: u8, bits: u64) -> bool
+fn walk_is_right(walk: Result<Walk, Refusal>, number: u8, point: u8, moves: u8, bits: u64) -> bool
     ensures { result ≡ walk_is_right walk number point moves bits }
 {
     match walk {
-        Walk::Reached(reached, sum, made) => {
-            both(
-                both(number == 0, point == reached),
-                both(moves == made, has_bits(sum, bits)),
-            )
-        }
-        Walk::Refused(refusal) => number == refusal.number(),
+        Ok(end) => both(
+            both(number == 0, point == end.at),
+            both(moves == end.moves, has_bits(end.sum, bits)),
+        ),
+        Err(refusal) => number == refusal.number(),
     }
 }
 

@@ -83,14 +83,12 @@ pub fn store_is_right(store: Store, bytes: &[u8]) -> bool
         return false;
     }
     let mut right = true;
-    let mut n: usize = 0;
-    while n < wide(made) {
+    for n in 0..wide(made) {
         let point = store.points[n];
         right = both(
             right,
             point_is_right(point, after(bytes, n * POINT_BYTES + 1)),
         );
-        n += 1;
     }
     both(right, made == byte_at(bytes, 0))
 }

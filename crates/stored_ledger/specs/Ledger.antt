@@ -1,6 +1,6 @@
--- The ledger of sides (Ticket 4 of document 02) by the stored answers of a list's insertions: with C the insertions done or torn, O and I the sums of their
+-- The ledger of sides by the stored answers of a list's insertions: with C the insertions done or torn, O and I the sums of their
 -- opened and inferred counts, there are 4 + C points made, 4 + C + I two-way links, 8 + 2 × C − O borders and O − 2 × I openings; and 4 points more are listed
--- than insertions are done. A withdrawn insertion is in none of them (Ticket 5). Nothing here asks what an insertion does: the totals are of stored bytes, the counts are of the map.
+-- than insertions are done. A withdrawn insertion is in none of them. Nothing here asks what an insertion does: the totals are of stored bytes, the counts are of the map.
 use Rattle.std.specs.Prelude.{ℕ, ◌+◌, ◌*◌, ◌%◌, Bool, true, false, cond, ◌&&◌, List, eqb, ltb, length}
 use Rattle.big_endian.specs.BigEndian.{byte_at}
 use Rattle.census.specs.Census.{counts_of}

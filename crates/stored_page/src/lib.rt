@@ -33,10 +33,8 @@ pub fn page_holds(page: &[u8], held: &[u8]) -> bool
     ensures { result ≡ holds page.now held.now }
 {
     let mut right = true;
-    let mut n: usize = 0;
-    while n < page.len() {
+    for n in 0..page.len() {
         right = both(right, page[n] == expected_byte(held, n));
-        n += 1;
     }
     right
 }

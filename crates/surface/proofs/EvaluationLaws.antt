@@ -1,7 +1,7 @@
 -- Laws of evaluation: a point's part by its two basis functions; a sum that stands at a number is the whole sum once the rest is added, whatever its parts are; the four sums of an
 -- evaluation stand together; maps that agree at their listed points have one value; the map by whose knots it is; and what its tables say.
 use Prim.Native.Nat.{ℕ, zero, suc, ◌+◌, ◌-◌, ◌<◌}
-use Rattle.std.specs.Prelude.{◌≡◌, Bool, Float}
+use Rattle.std.specs.Prelude.{◌≡◌, Bool, Float, Err, Ok, Result, ⊤}
 use Rattle.std.proofs.Math.Path.{refl, ap}
 use Rattle.std.proofs.Common.{◌∙◌, arith}
 use Rattle.std.proofs.Math.Bool.{true, false, cond}
@@ -9,9 +9,7 @@ use Rattle.std.specs.Float.Ieee.{binary64, add, mul, div}
 use Rattle.float64.specs.Literals.{zero_literal}
 use Rattle.basis.specs.Binary64.{binary64_arithmetic, knots}
 use Rattle.basis.specs.Formula.{formula}
-use Rattle.control_point.specs.declared.refusal.Outcome.{Outcome}
 use Rattle.control_point.specs.Told.{Told, refused_or}
-use Rattle.control_point.specs.declared.refusal.Outcome.TheVariants.{Done, Refused}
 use Rattle.ray.specs.declared.knots.PointKnots.{PointKnots}
 use Rattle.t_mesh.specs.Tmesh.{Axis, X, Y, Z, coordinate, place_under, position_of, is_listed}
 use Rattle.t_mesh.specs.declared.t_mesh.Place.{Place}
@@ -20,9 +18,9 @@ use Rattle.t_mesh.specs.declared.t_mesh.Tmesh.{Tmesh}
 use Rattle.surface.specs.Evaluation.{knots_of, weight_of, share_by, sum_from, sum_of, share_with, value_with, value_told, evaluation_told, value_of, answer_by, evaluated_by, with_knots, with_knots_table, subs_of, subs_table}
 use Rattle.knot_vectors.specs.Knots.{AllKnots, all, none, all_knots, keeping, generate_knot_vectors}
 use Rattle.surface.specs.declared.evaluation.Evaluation.{Evaluation}
-use Rattle.surface.specs.declared.evaluation.EvaluationAnswer.{EvaluationAnswer}
 use Rattle.surface.specs.declared.evaluation.Share.{Share}
 use Rattle.knot_vectors.specs.declared.knots.Generated.{Generated}
+use Rattle.control_point.specs.declared.refusal.Refusal.{Refusal}
 
 -- ---- a point's part, by its two basis functions
 pub share_by_basis : (own : PointKnots) (place : Place) (s t across upwards : Float) → across ≡ formula binary64_arithmetic s (knots own.s)
@@ -151,12 +149,12 @@ module _ (e : Float) (map : Tmesh) where
   unfolding with_knots
   ready_mesh = by_test map.kept
     where
-      by_test : (b : Bool) → (cond b (record { outcome = Done; map = map }) (generate_knot_vectors e map)).map.mesh ≡ map.mesh
+      by_test : (b : Bool) → (cond b (record { outcome = Ok tt; map = map }) (generate_knot_vectors e map)).map.mesh ≡ map.mesh
       by_test true = refl
       by_test false = generated_mesh
 
-  module _ (outcome : Outcome) (ready : Tmesh) where
-    pub ready_kept : map.kept ≡ true → outcome ≡ Done → ready ≡ map → record { outcome = outcome; map = ready } ≡ with_knots e map
+  module _ (outcome : Result ⊤ Refusal) (ready : Tmesh) where
+    pub ready_kept : map.kept ≡ true → outcome ≡ Ok tt → ready ≡ map → record { outcome = outcome; map = ready } ≡ with_knots e map
     unfolding with_knots
     ready_kept h o m = rw (o, m) (simp h)
 
@@ -165,7 +163,7 @@ module _ (e : Float) (map : Tmesh) where
     unfolding with_knots
     ready_built generated g h o m = rw (o, m) (simp h g)
 
-  pub evaluated_ready : (s t : Float) (outcome : Outcome) (ready : Tmesh) (value : Evaluation) (answer : EvaluationAnswer)
+  pub evaluated_ready : (s t : Float) (outcome : Result ⊤ Refusal) (ready : Tmesh) (value : Evaluation) (answer : Result Evaluation Refusal)
       → record { outcome = outcome; map = ready } ≡ with_knots e map → value ≡ value_of ready s t → answer ≡ answer_by outcome value
       → record { answer = answer; map = ready } ≡ subs_of e map s t
   unfolding subs_of
@@ -178,14 +176,14 @@ unfolding with_knots
 with_knots_told e map next = by_test map.kept
   where
     by_test : (b : Bool)
-        → refused_or (cond b (record { outcome = Done; map = map }) (generate_knot_vectors e map)).outcome (next (cond b (record { outcome = Done; map = map }) (generate_knot_vectors e map)).map)
+        → refused_or (cond b (record { outcome = Ok tt; map = map }) (generate_knot_vectors e map)).outcome (next (cond b (record { outcome = Ok tt; map = map }) (generate_knot_vectors e map)).map)
         ≡ cond b (next map) (refused_or (generate_knot_vectors e map).outcome (next (generate_knot_vectors e map).map))
     by_test true = refl
     by_test false = refl
 
-answer_told_lem : (outcome : Outcome) (value : Evaluation) → evaluation_told (answer_by outcome value) ≡ refused_or outcome (value_told value)
-answer_told_lem Done value = refl
-answer_told_lem (Refused refusal) value = refl
+answer_told_lem : (outcome : Result ⊤ Refusal) (value : Evaluation) → evaluation_told (answer_by outcome value) ≡ refused_or outcome (value_told value)
+answer_told_lem (Ok tt) value = refl
+answer_told_lem (Err refusal) value = refl
 
 pub subs_told : (e : Float) (map : Tmesh) (s t : Float) → evaluation_told (subs_of e map s t).answer ≡ subs_table e map s t
 unfolding subs_of

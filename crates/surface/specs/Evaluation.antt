@@ -2,15 +2,13 @@
 -- product of its two basis functions, rounded, times its pull; the answer is the sum of position × weight over the sum of the weights,
 -- axis by axis, each sum from +0.0 over the listed points in the order of their numbers, every product, quotient and sum rounding once;
 -- and beside it the sum of the weights. The source has no pulls; without them it is as in Plain.antt.
-use Rattle.std.specs.Prelude.{ℕ, zero, suc, ◌+◌, cond, [], ◌∷◌, Float}
+use Rattle.std.specs.Prelude.{ℕ, zero, suc, ◌+◌, cond, [], ◌∷◌, Float, Err, Ok, Result, ⊤}
 use Rattle.std.specs.Float.{binary64}
 use Rattle.std.specs.Float.Ieee.{add, mul, div}
 use Rattle.float64.specs.Literals.{zero_literal}
 use Rattle.basis.specs.Binary64.{binary64_arithmetic, knots}
 use Rattle.basis.specs.Formula.{formula}
 use Rattle.control_point.specs.Told.{Told, float, tells, refusal_told, refused_or}
-use Rattle.control_point.specs.declared.refusal.Outcome.{Outcome}
-use Rattle.control_point.specs.declared.refusal.Outcome.TheVariants.{Done, Refused as NotBuilt}
 use Rattle.grid_index.specs.Index.{knots_in}
 use Rattle.ray.specs.declared.knots.PointKnots.{PointKnots}
 use Rattle.t_mesh.specs.Tmesh.{Axis, X, Y, Z, coordinate, position_of, pull_of, is_listed}
@@ -19,21 +17,20 @@ use Rattle.t_mesh.specs.declared.t_mesh.Tmesh.{Tmesh}
 use Rattle.knot_vectors.specs.Knots.{generate_knot_vectors}
 use Rattle.knot_vectors.specs.declared.knots.Generated.{Generated}
 use Rattle.surface.specs.declared.evaluation.Evaluation.{Evaluation}
-use Rattle.surface.specs.declared.evaluation.EvaluationAnswer.{EvaluationAnswer}
-use Rattle.surface.specs.declared.evaluation.EvaluationAnswer.TheVariants.{Is, Refused}
 use Rattle.surface.specs.declared.evaluation.Evaluated.{Evaluated}
 use Rattle.surface.specs.declared.evaluation.Share.{Share}
+use Rattle.control_point.specs.declared.refusal.Refusal.{Refusal}
 
 -- ---- the answer
 -- what it tells: the position and its weight, or the refusal's number
 abbrev pub value_told : Evaluation → Told
 value_told value = tells (float value.x ∷ (float value.y ∷ (float value.z ∷ (float value.weight ∷ []))))
 
-abbrev pub evaluation_told : EvaluationAnswer → Told
-evaluation_told (Is value) = value_told value
-evaluation_told (Refused refusal) = refusal_told refusal
+abbrev pub evaluation_told : Result Evaluation Refusal → Told
+evaluation_told (Ok value) = value_told value
+evaluation_told (Err refusal) = refusal_told refusal
 
-abbrev pub evaluation_number : EvaluationAnswer → ℕ
+abbrev pub evaluation_number : Result Evaluation Refusal → ℕ
 evaluation_number answer = (evaluation_told answer).number
 
 -- an evaluation's position on an axis
@@ -98,16 +95,16 @@ value_of map s t = value_with (weight_of map s t) map
 
 -- ---- `subs`
 -- the value, or why there are no knots
-abbrev pub answer_by : Outcome → Evaluation → EvaluationAnswer
-answer_by Done value = Is value
-answer_by (NotBuilt refusal) value = Refused refusal
+abbrev pub answer_by : Result ⊤ Refusal → Evaluation → Result Evaluation Refusal
+answer_by (Ok tt) value = Ok value
+answer_by (Err refusal) value = Err refusal
 
-abbrev pub evaluated_by : Outcome → Tmesh → Float → Float → Evaluated
+abbrev pub evaluated_by : Result ⊤ Refusal → Tmesh → Float → Float → Evaluated
 evaluated_by outcome map s t = record { answer = answer_by outcome (value_of map s t); map = map }
 
 -- with knots kept: those kept, or those built
 unfoldable pub with_knots : Float → Tmesh → Generated
-with_knots e map = cond map.kept (record { outcome = Done; map = map }) (generate_knot_vectors e map)
+with_knots e map = cond map.kept (record { outcome = Ok tt; map = map }) (generate_knot_vectors e map)
 
 unfoldable pub subs_of : Float → Tmesh → Float → Float → Evaluated
 subs_of e map s t = evaluated_by (with_knots e map).outcome (with_knots e map).map s t

@@ -1,6 +1,4 @@
 // What an evaluation of a map answers.
-ghost use Rattle.std.specs.Prelude.{◌≡◌};
-ghost use Rattle.surface.specs.Evaluation.{evaluation_number};
 
 use control_point::refusal::Refusal;
 use t_mesh::t_mesh::Tmesh;
@@ -14,28 +12,10 @@ pub struct Evaluation {
     pub weight: f64,
 }
 
-#[derive(Clone, Copy)]
-pub enum EvaluationAnswer {
-    Is(Evaluation),
-    Refused(Refusal),
-}
-
-impl EvaluationAnswer {
-    // Its answer number, 0 where there is a value.
-    pub fn number(self) -> u8
-        ensures { result ≡ evaluation_number self }
-    {
-        match self {
-            EvaluationAnswer::Is(_) => 0,
-            EvaluationAnswer::Refused(refusal) => refusal.number(),
-        }
-    }
-}
-
 // What an evaluation or a set-point answers, and the map after it.
 #[derive(Clone, Copy)]
 pub struct Evaluated {
-    pub answer: EvaluationAnswer,
+    pub answer: Result<Evaluation, Refusal>,
     pub map: Tmesh,
 }
 

@@ -1,6 +1,6 @@
 -- Laws of insertion. The mesh goes by the answer of an insertion into its store; an insertion into a map is one into its mesh, and its
 -- answer says whether kept knots are still kept.
-use Rattle.std.specs.Prelude.{ℕ, ◌<◌, ◌+◌, ◌≡◌, refl, Bool, true, false, cond, List, Float, length}
+use Rattle.std.specs.Prelude.{ℕ, ◌<◌, ◌+◌, ◌≡◌, refl, Bool, true, false, cond, List, Float, length, Result}
 use Rattle.std.proofs.Common.{◌∙◌, ap, sym}
 use Rattle.control_point.specs.declared.t_mesh_control_point.TmeshControlPoint.{TmeshControlPoint}
 use Rattle.control_point.specs.declared.t_mesh_direction.TmeshDirection.{TmeshDirection}
@@ -8,7 +8,6 @@ use Rattle.insertion.specs.Insert.{insert_told, is_done, is_torn, is_refused, in
 use Rattle.insertion.specs.Table.{insertion_table}
 use Rattle.insertion.proofs.TableLaws.{insertion_told}
 use Rattle.insertion.proofs.LentLaws.{inserted_made}
-use Rattle.insertion.specs.declared.insertion.InsertAnswer.{InsertAnswer}
 use Rattle.insertion.specs.declared.insertion.Inserted.{Inserted}
 use Rattle.lent_points.proofs.LentLaws.{true_false}
 use Rattle.store.specs.declared.store.Store.{Store}
@@ -19,28 +18,30 @@ use Rattle.t_mesh.specs.declared.add.InsertedMesh.{InsertedMesh}
 use Rattle.t_mesh.specs.declared.t_mesh.Position.{Position}
 use Rattle.t_mesh.specs.declared.t_mesh.Mesh.{Mesh}
 use Rattle.t_mesh.specs.declared.t_mesh.Tmesh.{Tmesh}
+use Rattle.control_point.specs.declared.refusal.Refusal.{Refusal}
+use Rattle.insertion.specs.declared.insertion.Insertion.{Insertion}
 
 -- not refused, there was room for the point, and it is made
-pub placed_made : (e : Float) (store : Store) → length store.points ≡ 128 → (listed : Bool) (con : ℕ) (d : TmeshDirection) (ratio : Float) (answer : InsertAnswer)
+pub placed_made : (e : Float) (store : Store) → length store.points ≡ 128 → (listed : Bool) (con : ℕ) (d : TmeshDirection) (ratio : Float) (answer : Result Insertion Refusal)
     → answer ≡ (insert_point e store listed con d ratio).answer → is_refused answer ≡ false
     → (store.made < 128) × ((insert_point e store listed con d ratio).store.made ≡ store.made + 1)
 placed_made e store room listed con d ratio answer is stands =
     inserted_made e store room listed con d ratio (λ refusal h. true_false (sym (ap is_refused (is ∙ h)) ∙ stands))
 
 -- refused, the mesh is as it was; else it has the point
-pub mesh_refused : (mesh : Mesh) (position : Position) (answer : InsertAnswer) (result : Inserted) → answer ≡ result.answer → is_refused answer ≡ true
+pub mesh_refused : (mesh : Mesh) (position : Position) (answer : Result Insertion Refusal) (result : Inserted) → answer ≡ result.answer → is_refused answer ≡ true
     → record { answer = answer; mesh = mesh } ≡ answered_mesh mesh position result
 mesh_refused mesh position answer result is refused =
     ap (λ (b : Bool). record { answer = answer; mesh = cond b mesh (with_placed mesh result.store mesh.made position (is_done answer)) }) (sym refused)
-    ∙ ap (λ (a : InsertAnswer). answered_mesh mesh position (record { answer = a; store = result.store })) is
+    ∙ ap (λ (a : Result Insertion Refusal). answered_mesh mesh position (record { answer = a; store = result.store })) is
 
-pub mesh_placed : (mesh : Mesh) (position : Position) (points : List TmeshControlPoint) (made : ℕ) (answer : InsertAnswer) (listed : Bool) (result : Inserted)
+pub mesh_placed : (mesh : Mesh) (position : Position) (points : List TmeshControlPoint) (made : ℕ) (answer : Result Insertion Refusal) (listed : Bool) (result : Inserted)
     → answer ≡ result.answer → is_refused answer ≡ false → points ≡ result.store.points → made ≡ result.store.made → listed ≡ is_done answer
     → record { answer = answer; mesh = with_placed mesh (record { points = points; made = made }) mesh.made position listed } ≡ answered_mesh mesh position result
 mesh_placed mesh position points made answer listed result is stands points_are made_is listed_is =
     rw (points_are, made_is, listed_is)
     (ap (λ (b : Bool). record { answer = answer; mesh = cond b mesh (with_placed mesh result.store mesh.made position (is_done answer)) }) (sym stands)
-    ∙ ap (λ (a : InsertAnswer). answered_mesh mesh position (record { answer = a; store = result.store })) is)
+    ∙ ap (λ (a : Result Insertion Refusal). answered_mesh mesh position (record { answer = a; store = result.store })) is)
 
 -- a map with the mesh that an insertion left
 abbrev pub added_to : Tmesh → InsertedMesh → Added

@@ -1,13 +1,12 @@
 -- Insertion into a map. Refused, the map is as it was. Torn, the mesh keeps all that was done, p stands there with its position and a pull of 1.0 and is not listed, and the kept
 -- knots and their index are kept. Done, p is listed and both are dropped. So it is in the source (`add_control_point`). By the rule that withdraws torn
 -- insertions (`add_or_withdraw`) a torn one leaves the map as it was: the sides, the coordinates, the places, the listing, the kept knots and their index.
-use Rattle.std.specs.Prelude.{ℕ, Bool, false, cond, Float, set}
+use Rattle.std.specs.Prelude.{ℕ, Bool, false, cond, Float, set, Err, Ok, Result}
 use Rattle.control_point.specs.declared.t_mesh_direction.TmeshDirection.{TmeshDirection}
 use Rattle.insertion.specs.Insert.{is_done, is_refused, insert_point}
 use Rattle.insertion.specs.Withdrawal.{unless_withdrawn}
 use Rattle.insertion.specs.declared.insertion.Inserted.{Inserted}
-use Rattle.insertion.specs.declared.insertion.InsertAnswer.{InsertAnswer}
-use Rattle.insertion.specs.declared.insertion.InsertAnswer.TheVariants.{Done, Torn, Refused}
+use Rattle.insertion.specs.declared.insertion.Insertion.TheVariants.{Done, Torn}
 use Rattle.store.specs.declared.store.Store.{Store}
 use Rattle.t_mesh.specs.Tmesh.{unpulled, mesh_store, store_of, listed_in, is_listed}
 use Rattle.t_mesh.specs.declared.t_mesh.Position.{Position}
@@ -15,6 +14,8 @@ use Rattle.t_mesh.specs.declared.t_mesh.Mesh.{Mesh}
 use Rattle.t_mesh.specs.declared.t_mesh.Tmesh.{Tmesh}
 use Rattle.t_mesh.specs.declared.add.Added.{Added}
 use Rattle.t_mesh.specs.declared.add.InsertedMesh.{InsertedMesh}
+use Rattle.control_point.specs.declared.refusal.Refusal.{Refusal}
+use Rattle.insertion.specs.declared.insertion.Insertion.{Insertion}
 
 -- ---- the mesh
 -- with the store after an insertion, which made the point n at a position and lists it or not
@@ -23,7 +24,7 @@ with_placed mesh store n position listed =
     record { points = store.points; made = store.made; places = set mesh.places n (unpulled position); listed = set mesh.listed n listed }
 
 -- after an insertion, by its answer and the store that it left
-abbrev pub mesh_after : Mesh → Position → InsertAnswer → Store → Mesh
+abbrev pub mesh_after : Mesh → Position → Result Insertion Refusal → Store → Mesh
 mesh_after mesh position answer store =
     cond (is_refused answer) mesh (with_placed mesh store mesh.made position (is_done answer))
 
@@ -39,13 +40,13 @@ insert_into_mesh e mesh con d ratio position =
 
 -- ---- the map
 -- whether kept knots and their index are still kept: done, they are dropped
-abbrev pub kept_after : Bool → InsertAnswer → Bool
-kept_after kept (Done opened inferred) = false
-kept_after kept (Torn opened inferred) = kept
-kept_after kept (Refused refusal) = kept
+abbrev pub kept_after : Bool → Result Insertion Refusal → Bool
+kept_after kept (Ok (Done opened inferred)) = false
+kept_after kept (Ok (Torn opened inferred)) = kept
+kept_after kept (Err refusal) = kept
 
 -- after an insertion, by its answer and the store that it left
-abbrev pub after_insertion : Tmesh → Position → InsertAnswer → Store → Tmesh
+abbrev pub after_insertion : Tmesh → Position → Result Insertion Refusal → Store → Tmesh
 after_insertion map position answer store =
     record { mesh = mesh_after map.mesh position answer store; kept = kept_after map.kept answer; knots = map.knots; index = map.index }
 

@@ -5,16 +5,15 @@ ghost use Rattle.std.specs.Prelude.{◌≡◌};
 ghost use Rattle.big_endian.specs.Written.{written};
 ghost use Rattle.value_bytes.specs.Value.{bytes_of_value};
 
-use big_endian::put_number;
-use float64::to_bits;
+use big_endian::put_float;
 use surface::evaluation::Evaluation;
 
 // At the start of a buffer, as far as that reaches.
 pub fn write_value(out: &mut [u8], value: Evaluation)
     ensures { out.new ≡ written out.old 0 (bytes_of_value value) }
 {
-    put_number(out, 0, to_bits(value.x));
-    put_number(out, 8, to_bits(value.y));
-    put_number(out, 16, to_bits(value.z));
-    put_number(out, 24, to_bits(value.weight));
+    put_float(out, 0, value.x);
+    put_float(out, 8, value.y);
+    put_float(out, 16, value.z);
+    put_float(out, 24, value.weight);
 }

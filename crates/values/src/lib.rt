@@ -1,2 +1,2 @@
-// Lists as the values of a function: definitions and laws in specs/, no function.
+// Lists as the values of a function: definitions in specs/, laws in proofs/, no function.
 #![tactic(auto)]

@@ -1,29 +1,22 @@
--- `number_of_width` meets its contract: the loop has read the number of the first bytes, which is below 256 to their count.
-use Prim.Native.Nat.{ℕ, ◌+◌, ◌*◌}
-use mathlib.Core.Path.{refl, sym, ap, ◌∙◌}
-use native.Mathlib.Omega.{arith}
-use lib.Dec.{lit<}
-use borrow.Author.Rules.{rules}
+-- Each byte of the rest stands at its place in all bytes, and the number of so many bytes leaves room for one more.
+use Rattle.std.proofs.Common.{arith, rules}
 use Rattle.big_endian.specs.BigEndian.{number_at}
 use Rattle.big_endian.proofs.Laws.{number_more, below_more, room}
 use Rattle.big_endian.proofs.number_of_width.Goals as goal
 
-pub loop-read-init : goal.loop-read-init
+pub loop-i-init : goal.loop-i-init
 unfolding number_at
-loop-read-init c = (search rules, refl, lit< tt)
+loop-i-init c = search rules
 
-pub loop-read-preserved : goal.loop-read-preserved
-loop-read-preserved c =
-    let l = c.loop-read in
-    let bytes = c.args.bytes.now in
-    let at = c.args.at in (
-      omega arith,
-      ap (λ (n : ℕ). n * 256 + c.byte_after.result) l.invariant.1 ∙ ap (λ (n : ℕ). number_at l.read bytes at * 256 + n) c.byte_after.ensures ∙ sym (number_more l.read bytes at),
-      below_more l.number c.byte_after.result l.read l.invariant.2 (c.byte_after.type_inv),
+pub loop-i-preserved : goal.loop-i-preserved
+loop-i-preserved c =
+    let l = c.loop-i in (
+      number_more l.i c.args.bytes.now c.args.at l.number c.from.result l.invariant.0 cc,
+      below_more l.number c.from.result l.i l.invariant.1 (omega arith),
     )
 
 pub overflow_mul-number : goal.overflow_mul-number
-overflow_mul-number c = let below = room c.loop-read.number c.loop-read.read (omega arith) c.loop-read.invariant.2 in omega arith
+overflow_mul-number c = omega (arith, room c.loop-i.number c.loop-i.i (omega arith) c.loop-i.invariant.1)
 
 pub overflow_add-number : goal.overflow_add-number
-overflow_add-number c = let below = room c.loop-read.number c.loop-read.read (omega arith) c.loop-read.invariant.2 in omega (arith, c.byte_after.type_inv)
+overflow_add-number c = omega (arith, room c.loop-i.number c.loop-i.i (omega arith) c.loop-i.invariant.1)

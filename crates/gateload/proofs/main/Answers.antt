@@ -3,10 +3,11 @@ use Rattle.std.proofs.Common.{◌≡◌, ℕ, ◌≤◌, List, rules, arith, len
 use Rattle.load.specs.Load.{asked_answer}
 use Rattle.load.proofs.LoadLaws.{asked_fits}
 use Rattle.map_writing.specs.Answer.{bytes_written}
-use Rattle.map_writing.specs.declared.WriteAnswer.{WriteAnswer}
 use Rattle.gateload.proofs.main.Goals as goal
+use Rattle.std.specs.Prelude.{Result}
+use Rattle.control_point.specs.declared.refusal.Refusal.{Refusal}
 
-within : (end room : ℕ) (answer : WriteAnswer) (input file : List ℕ)
+within : (end room : ℕ) (answer : Result ℕ Refusal) (input file : List ℕ)
     → end ≡ bytes_written answer → answer ≡ asked_answer input room → room ≡ length file → end ≤ length file
 within end room answer input file told is same =
     let counted = told ∙ ap bytes_written is in

@@ -1,11 +1,7 @@
 -- `index_of` meets its contract: at each turn the words of the lines are those of the points below i, and of the points below i from 64 on.
-use Prim.Native.Nat.{◌≤◌, ◌-◌}
 use Rattle.grid_index.proofs.IndexLaws.{LinesTo}
 use Rattle.grid_index.proofs.index_of.Given as goal
 
 abbrev pub invariant-loop-i : goal.invariant-loop-i
 invariant-loop-i l =
-    (l.i ≤ 64) × (LinesTo l.listed l.knots 0 l.i l.columns l.rows × LinesTo l.listed l.knots 64 l.i l.later_columns l.later_rows)
-
-abbrev pub decreases-loop-i : goal.decreases-loop-i
-decreases-loop-i l = 64 - l.i
+    LinesTo l.listed l.knots 0 l.i l.columns l.rows × LinesTo l.listed l.knots 64 l.i l.later_columns l.later_rows

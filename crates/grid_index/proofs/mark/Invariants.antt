@@ -1,10 +1,6 @@
 -- `mark` meets its contract: at each turn the words of the lines below i are marked, and the others are as they were.
-use Prim.Native.Nat.{◌≤◌, ◌-◌}
 use Rattle.grid_index.proofs.IndexLaws.{MarkedTo}
 use Rattle.grid_index.proofs.mark.Given as goal
 
 abbrev pub invariant-loop-i : goal.invariant-loop-i
-invariant-loop-i l = (l.i ≤ 16) × MarkedTo l.initial.words l.bit l.first l.last l.i l.words
-
-abbrev pub decreases-loop-i : goal.decreases-loop-i
-decreases-loop-i l = 16 - l.i
+invariant-loop-i l = MarkedTo l.initial.words l.bit l.first l.last l.i l.words

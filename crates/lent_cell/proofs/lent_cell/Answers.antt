@@ -1,45 +1,43 @@
 -- `lent_cell` meets its contract: at each turn the rows of the points below n are filled and the words by them are those of the points below n, in the map that the arrays hold with any
 -- positions.
 use Prim.Native.Nat.{◌<◌}
-use mathlib.Core.Path.{◌≡◌, ◌∙◌, ap}
+use mathlib.Core.Path.{◌≡◌, refl, ◌∙◌, ap}
 use native.Mathlib.Omega.{arith}
-use Rattle.cells.specs.declared.CellAnswer.TheVariants.{Is}
-use Rattle.lent_cell.proofs.Turn.{turn_first, turn_end, turn_passed, turn_refused, turn_marked}
+use Rattle.std.specs.Prelude.{Err, Ok}
+use Rattle.std.proofs.lemmas.Result.{err_from_is_err_and}
+use Rattle.lent_cell.proofs.Turn.{unplaced, turn_first, turn_end, turn_passed, turn_refused, turn_marked}
 use Rattle.lent_cell.proofs.lent_cell.Goals as goal
-use Rattle.lent_cell.proofs.lent_cell.Goals.{then-listed-n+in_default, else-listed-n}
 
 pub loop-n-init : goal.loop-n-init
-loop-n-init c =
-    let a = c.args in
-    (omega arith, λ positions. turn_first a.closeness a.kinds.now a.numbers.now a.intervals.now a.coordinates.now a.made a.listed.now a.cell positions)
+loop-n-init c = turn_first c.args.closeness (unplaced c.args.points.now c.args.made c.args.listed.now) c.args.cell
 
-pub returns-in-Refused : goal.returns-in-Refused
-returns-in-Refused c =
+pub loop-n-preserved-then-not-is_listed : goal.loop-n-preserved-then-not-is_listed
+loop-n-preserved-then-not-is_listed c =
     let a = c.args in
-    let o = c.loop-n in
-    let h : o.n < 128 = omega arith in
+    let k = c.loop-n in
+    let h : k.n < 128 = omega arith in
     λ positions.
-    turn_refused a.closeness a.kinds.now a.numbers.now a.intervals.now a.coordinates.now a.made a.listed.now a.cell positions
-    o.n o.first o.second (o.invariant.1 positions) h c.knots_under-built.result c.knots_under-built.ensures c.if-listed-n.true c.in-Refused.refusal c.in-Refused.is
+    turn_passed a.closeness (unplaced a.points.now a.made a.listed.now) a.cell positions k.n k.first k.second (k.invariant positions) h c.if-not-is_listed.true _ _ refl refl
+
+pub returns-in_err-built : goal.returns-in_err-built
+returns-in_err-built c =
+    let a = c.args in
+    let k = c.loop-n in
+    let h : k.n < 128 = omega arith in
+    let left = err_from_is_err_and c.from_residual.result c.from_residual.ensures.1 in
+    λ positions.
+    left.1
+    ∙ ap Err left.2
+    ∙ turn_refused a.closeness (unplaced a.points.now a.made a.listed.now) a.cell positions k.n k.first k.second (k.invariant positions) h _ c.knots_under-built.ensures c.if-not-is_listed.false _ c.in_err-built.was
 
 pub loop-n-preserved : goal.loop-n-preserved
 loop-n-preserved c =
     let a = c.args in
     let k = c.loop-n in
-    let o = c.if-listed-n in
-    let h : k.n < 128 = omega arith in (
-      omega arith,
-      λ positions.
-          elim o.branch [
-            | then-listed-n+in_default w ↦
-                turn_marked a.closeness a.kinds.now a.numbers.now a.intervals.now a.coordinates.now a.made a.listed.now a.cell positions
-                k.n k.first k.second (k.invariant.1 positions) h w.knots_under-built.result w.knots_under-built.ensures w.if-listed-n.true w.in_default.is
-                w.reaches-set.result w.reaches-set.ensures o.first o.second (w.first-is ∙ w.marked-first.ensures) (w.second-is ∙ w.marked-second.ensures)
-            | else-listed-n w ↦
-                turn_passed a.closeness a.kinds.now a.numbers.now a.intervals.now a.coordinates.now a.made a.listed.now a.cell positions
-                k.n k.first k.second (k.invariant.1 positions) h w.if-listed-n.false o.first o.second w.first-is w.second-is
-          ],
-    )
+    let h : k.n < 128 = omega arith in
+    λ positions.
+    turn_marked a.closeness (unplaced a.points.now a.made a.listed.now) a.cell positions k.n k.first k.second (k.invariant positions) h _ c.knots_under-built.ensures c.if-not-is_listed.false c.in_ok-built.was
+    _ c.reaches-set.ensures _ _ c.marked-first.ensures c.marked-second.ensures
 
 pub returns : goal.returns
 returns c =
@@ -47,7 +45,4 @@ returns c =
     let k = c.loop-n in
     let h : k.n ≡ 128 = omega arith in
     let fits : a.cell < 256 = omega (arith, c.well_formed) in
-    λ positions.
-    ap Is c.counted.ensures
-    ∙ turn_end a.closeness a.kinds.now a.numbers.now a.intervals.now a.coordinates.now a.made a.listed.now a.cell positions
-    k.n k.first k.second (k.invariant.1 positions) h fits
+    λ positions. ap Ok c.counted.ensures ∙ turn_end a.closeness (unplaced a.points.now a.made a.listed.now) a.cell positions k.n k.first k.second (k.invariant positions) h fits

@@ -1,48 +1,44 @@
 -- `lent_answer` meets its contract: at each turn the rows of the points below n are filled and the sums by them stand at n, in the map that the arrays hold.
 use Prim.Native.Nat.{◌<◌}
-use mathlib.Core.Path.{◌≡◌, ap, ◌∙◌}
+use mathlib.Core.Path.{◌≡◌, refl, ap, ◌∙◌}
 use native.Mathlib.Omega.{arith}
+use Rattle.std.specs.Prelude.{Err}
+use Rattle.std.proofs.lemmas.Result.{err_from_is_err_and}
 use Rattle.t_mesh.specs.Tmesh.{unpulled}
 use Rattle.lent_evaluation.proofs.Turn.{turn_first, turn_end, turn_passed, turn_refused, turn_added}
 use Rattle.lent_evaluation.proofs.lent_answer.Goals as goal
-use Rattle.lent_evaluation.proofs.lent_answer.Goals.{then-listed-n+in_default, else-listed-n}
 
 pub loop-n-init : goal.loop-n-init
-loop-n-init c =
-    let a = c.args in
-    (omega arith, turn_first a.closeness a.kinds.now a.numbers.now a.intervals.now a.coordinates.now a.made a.positions.now a.listed.now a.s a.t)
+loop-n-init c = turn_first c.args.closeness c.args.mesh.now c.args.s c.args.t
 
-pub returns-in-Refused : goal.returns-in-Refused
-returns-in-Refused c =
+pub loop-n-preserved-then-not-listed : goal.loop-n-preserved-then-not-listed
+loop-n-preserved-then-not-listed c =
     let a = c.args in
-    let o = c.loop-n in
-    let h : o.n < 128 = omega arith in
-    turn_refused a.closeness a.kinds.now a.numbers.now a.intervals.now a.coordinates.now a.made a.positions.now a.listed.now a.s a.t
-    o.n o.x o.y o.z o.weight o.invariant.1 h c.knots_under-built.result c.knots_under-built.ensures c.if-listed-n.true c.in-Refused.refusal c.in-Refused.is
+    let k = c.loop-n in
+    let h : k.n < 128 = omega arith in
+    turn_passed a.closeness a.mesh.now a.s a.t k.n k.x k.y k.z k.weight k.invariant h c.if-not-listed.true _ _ _ _ refl refl refl refl
+
+pub returns-in_err-built : goal.returns-in_err-built
+returns-in_err-built c =
+    let a = c.args in
+    let k = c.loop-n in
+    let h : k.n < 128 = omega arith in
+    let left = err_from_is_err_and c.from_residual.result c.from_residual.ensures.1 in
+    left.1
+    ∙ ap Err left.2
+    ∙ turn_refused a.closeness a.mesh.now a.s a.t k.n k.x k.y k.z k.weight k.invariant h _ c.knots_under-built.ensures c.if-not-listed.false _ c.in_err-built.was
 
 pub loop-n-preserved : goal.loop-n-preserved
 loop-n-preserved c =
     let a = c.args in
     let k = c.loop-n in
-    let o = c.if-listed-n in
-    let h : k.n < 128 = omega arith in (
-      omega arith,
-      elim o.branch [
-        | then-listed-n+in_default w ↦
-            turn_added a.closeness a.kinds.now a.numbers.now a.intervals.now a.coordinates.now a.made a.positions.now a.listed.now a.s a.t
-            k.n k.x k.y k.z k.weight k.invariant.1 h w.knots_under-built.result w.knots_under-built.ensures w.if-listed-n.true w.in_default.is
-            w.unpulled-place.result (w.unpulled-place.ensures ∙ ap unpulled w.lent_position.ensures) w.share_of-share.result w.share_of-share.ensures
-            o.x o.y o.z o.weight w.x-is w.y-is w.z-is w.weight-is
-        | else-listed-n w ↦
-            turn_passed a.closeness a.kinds.now a.numbers.now a.intervals.now a.coordinates.now a.made a.positions.now a.listed.now a.s a.t
-            k.n k.x k.y k.z k.weight k.invariant.1 h w.if-listed-n.false o.x o.y o.z o.weight w.x-is w.y-is w.z-is w.weight-is
-      ],
-    )
+    let h : k.n < 128 = omega arith in
+    turn_added a.closeness a.mesh.now a.s a.t k.n k.x k.y k.z k.weight k.invariant h _ c.knots_under-built.ensures c.if-not-listed.false c.in_ok-built.was
+    _ (c.unpulled-place.ensures ∙ ap unpulled c.lent_position.ensures) _ c.share_of-share.ensures _ _ _ _ refl refl refl refl
 
 pub returns : goal.returns
 returns c =
     let a = c.args in
     let k = c.loop-n in
     let h : k.n ≡ 128 = omega arith in
-    turn_end a.closeness a.kinds.now a.numbers.now a.intervals.now a.coordinates.now a.made a.positions.now a.listed.now a.s a.t
-    k.n k.x k.y k.z k.weight k.invariant.1 h
+    turn_end a.closeness a.mesh.now a.s a.t k.n k.x k.y k.z k.weight k.invariant h

@@ -13,35 +13,27 @@ use Rattle.insertion.specs.declared.insertion.NewSide.TheVariants.{Stays}
 use Rattle.lent_insertion.proofs.insert_passed.Goals as goal
 
 pub returns-in-Tears : goal.returns-in-Tears
-unfolding lent_points
 returns-in-Tears c =
     let a = c.args in
-    let p = c.place.new in
-    let q = c.cross-first.new in
     let first = c.cross-first in (
       first.ensures.1.0,
-      inserts_sided a.closeness a.ratio (lent_sides a.kinds.now a.numbers.now a.intervals.now) (lent_sides p.kinds p.numbers p.intervals) (lent_sides q.kinds q.numbers q.intervals)
-          a.coordinates.now p.coordinates q.coordinates a.made a.con a.other a.direction c.clockwise-f.result a.interval first.result Stays _
+      inserts_sided a.closeness a.ratio a.points.now c.place.new.points first.new.points a.made a.con a.end a.direction c.clockwise-f.result first.result Stays _
           c.place.ensures.1 c.clockwise-f.ensures first.ensures.0 first.ensures.1.1 (torn first.result _ c.in-Tears.is) refl _ c.answer_of.ensures,
     )
 
 pub returns : goal.returns
-unfolding lent_points
 returns c =
     let a = c.args in
-    let p = c.place.new in
-    let q = c.cross-first.new in
-    let r = c.cross-second.new in
     let first = c.cross-first in
     let second = c.cross-second in
+    let crossed = first.new.points in
     let turned : c.flip.result ≡ anti_clockwise_of a.direction = c.flip.ensures ∙ ap flip_of c.clockwise-f.ensures ∙ flip_clockwise a.direction in (
       second.ensures.1.0,
-      inserts_sided a.closeness a.ratio (lent_sides a.kinds.now a.numbers.now a.intervals.now) (lent_sides p.kinds p.numbers p.intervals) (lent_sides q.kinds q.numbers q.intervals)
-          a.coordinates.now p.coordinates q.coordinates a.made a.con a.other a.direction c.clockwise-f.result a.interval first.result second.result _
+      inserts_sided a.closeness a.ratio a.points.now c.place.new.points crossed a.made a.con a.end a.direction c.clockwise-f.result first.result second.result _
           c.place.ensures.1 c.clockwise-f.ensures first.ensures.0 first.ensures.1.1
           (second.ensures.0
-          ∙ ap (new_side a.closeness (lent_sides q.kinds q.numbers q.intervals) (a.made + 1) a.con a.made) turned
+          ∙ ap (new_side a.closeness (lent_sides crossed.sides) (a.made + 1) a.con a.made) turned
           ∙ sym (untorn first.result _ c.in_default.not-Tears))
-          (second.ensures.1.1 ∙ ap (λ (g : TmeshDirection). points_with_new (lent_points q.kinds q.numbers q.intervals q.coordinates) a.made g second.result) turned)
+          (second.ensures.1.1 ∙ ap (λ (g : TmeshDirection). points_with_new (lent_points crossed) a.made g second.result) turned)
           _ c.answer_of-2.ensures,
     )

@@ -13,12 +13,12 @@ use Rattle.lent_surface.proofs.lend.Goals as goal
 promised : (own : Tmesh) (r : Generated × LentArrays) → r ≡ lend_of millionth own → (r ≡ lend_of millionth own) × (outcome_told r.0.outcome ≡ lend_table millionth own)
 promised own r = beside (λ (x : Generated × LentArrays). outcome_told x.0.outcome) (lend_of millionth own) (lend_table millionth own) (lend_told millionth own) r
 
-pub returns-in-Refused : goal.returns-in-Refused
-returns-in-Refused c =
+pub returns-in-Err : goal.returns-in-Err
+returns-in-Err c =
     let all = (let own = c.args.map in
     let l = c.lend_none.new in
     promised own _
-    (lend_refused millionth own c.with_knots-built.result (lent l.across l.upwards l.places l.listed) c.with_knots-built.ensures _ c.in-Refused.is c.lend_none.ensures)) in record { is = all.0; told = all.1 }
+    (lend_refused millionth own c.with_knots-built.result (lent l.across l.upwards l.places l.listed) c.with_knots-built.ensures _ c.in-Err.is c.lend_none.ensures)) in record { is = all.0; told = all.1 }
 
 pub returns : goal.returns
 returns c =

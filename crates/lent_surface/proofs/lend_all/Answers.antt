@@ -13,4 +13,4 @@ returns c =
     all_lent own k.n k.across k.upwards k.places h
     g.1.1.1.0.1.0.1
     g.1.1.0.1.1.1.0.1.0.1
-    k.invariant.1.0 k.invariant.1.1.0 k.invariant.1.1.1
+    k.invariant.0 k.invariant.1.0 k.invariant.1.1

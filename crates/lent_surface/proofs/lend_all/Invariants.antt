@@ -1,5 +1,5 @@
 -- `lend_all` meets its contract: the points below n stand in the arrays, and the listing is stored whole.
-use Prim.Native.Nat.{ℕ, ◌≤◌, ◌-◌}
+use Prim.Native.Nat.{ℕ, ◌-◌}
 use mathlib.Core.List.{[]}
 use Rattle.t_mesh.specs.Tmesh.{no_place, place_under}
 use Rattle.values.proofs.ValuesLaws.{StoredTo}
@@ -9,9 +9,5 @@ use Rattle.lent_surface.proofs.lend_all.Given as goal
 
 abbrev pub invariant-loop-n : goal.invariant-loop-n
 invariant-loop-n l =
-    (l.n ≤ 128)
-    × (StoredTo (λ (m : ℕ). (knots_of l.map m).s) [] 128 l.n l.across
-    × (StoredTo (λ (m : ℕ). (knots_of l.map m).t) [] 128 l.n l.upwards × StoredTo (λ (m : ℕ). place_row (place_under l.map m)) (place_row no_place) 128 l.n l.places))
-
-abbrev pub decreases-loop-n : goal.decreases-loop-n
-decreases-loop-n l = 128 - l.n
+    StoredTo (λ (m : ℕ). (knots_of l.map m).s) [] 128 l.n l.across
+    × (StoredTo (λ (m : ℕ). (knots_of l.map m).t) [] 128 l.n l.upwards × StoredTo (λ (m : ℕ). place_row (place_under l.map m)) (place_row no_place) 128 l.n l.places)

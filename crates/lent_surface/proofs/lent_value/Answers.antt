@@ -14,19 +14,16 @@ loop-n-preserved c =
     let m = held_map a.across.now a.upwards.now a.places.now a.listed.now in
     let k = c.loop-n in
     let o = c.if-listed-n in
-    let h : k.n < 128 = omega arith in (
-      omega arith,
-      elim o.branch [
-        | then-listed-n w ↦
-            sums_added m a.s a.t k.n k.x k.y k.z k.weight o.x o.y o.z o.weight h k.invariant.1
-            w.lent_share-share.result w.if-listed-n.true
-            (held_share a.across.now a.upwards.now a.places.now a.listed.now k.n h a.s a.t w.lent_share-share.result w.lent_share-share.ensures)
-            w.x-is w.y-is w.z-is w.weight-is
-        | else-listed-n w ↦
-            sums_passed m a.s a.t k.n k.x k.y k.z k.weight o.x o.y o.z o.weight h k.invariant.1
-            w.if-listed-n.false w.x-is w.y-is w.z-is w.weight-is
-      ],
-    )
+    let h : k.n < 128 = omega arith in elim o.branch [
+      | then-listed-n w ↦
+          sums_added m a.s a.t k.n k.x k.y k.z k.weight o.x o.y o.z o.weight h k.invariant
+          w.lent_share-share.result w.if-listed-n.true
+          (held_share a.across.now a.upwards.now a.places.now a.listed.now k.n h a.s a.t w.lent_share-share.result w.lent_share-share.ensures)
+          w.x-is w.y-is w.z-is w.weight-is
+      | else-listed-n w ↦
+          sums_passed m a.s a.t k.n k.x k.y k.z k.weight o.x o.y o.z o.weight h k.invariant
+          w.if-listed-n.false w.x-is w.y-is w.z-is w.weight-is
+    ]
 
 pub returns : goal.returns
 returns c =
@@ -34,4 +31,4 @@ returns c =
     let k = c.loop-n in
     let h : k.n ≡ 128 = omega arith in
     sums_end (held_map a.across.now a.upwards.now a.places.now a.listed.now) a.s a.t
-    k.n k.x k.y k.z k.weight h k.invariant.1
+    k.n k.x k.y k.z k.weight h k.invariant

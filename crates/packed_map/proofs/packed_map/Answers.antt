@@ -7,6 +7,5 @@ use Rattle.packed_map.proofs.packed_map.Goals as goal
 pub returns : goal.returns
 unfolding unkept
 returns c =
-    let a = c.args in
-    let points = lent_points a.kinds.now a.numbers.now a.intervals.now a.coordinates.now in
-    packed_mesh points a.made a.positions.now a.listed.now _ _ c.packed_points-points.ensures c.packed_places.ensures
+    let lent = c.args.mesh.now in
+    packed_mesh (lent_points lent.points) lent.made lent.positions lent.listed _ _ c.packed_points-points.ensures c.packed_places.ensures

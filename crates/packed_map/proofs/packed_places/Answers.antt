@@ -9,4 +9,4 @@ use Rattle.packed_map.proofs.packed_places.Goals as goal
 pub returns : goal.returns
 returns c =
     let all : c.loop-n.n ≡ 128 = omega arith in
-    stored_all (unpulled_at c.args.positions.now) no_place 128 c.loop-n.n c.loop-n.places all c.loop-n.invariant.1
+    stored_all (unpulled_at c.args.mesh.now.positions) no_place 128 c.loop-n.n c.loop-n.places all c.loop-n.invariant

@@ -7,13 +7,14 @@ use borrow.Author.Tests.{eq-eqb, ne_eqb}
 use Rattle.control_point.proofs.ToldLaws.{beside}
 use Rattle.counted_file.specs.Counted.{file_told}
 use Rattle.counted_file.proofs.CountedLaws.{length_tells}
-use Rattle.counted_file.specs.declared.FileCheck.{FileCheck}
 use Rattle.season.specs.Season.{windows_at, window_bytes, most_windows, the_version, checked_season, season_table}
 use Rattle.season.proofs.SeasonLaws.{check_told}
 use Rattle.season.proofs.check_season.Goals as goal
+use Rattle.std.specs.Prelude.{Result}
+use Rattle.control_point.specs.declared.refusal.Refusal.{Refusal}
 
 -- what it tells follows from what it is
-told : (season : List ℕ) (r : FileCheck) → r ≡ checked_season season → (r ≡ checked_season season) × (file_told r ≡ season_table season)
+told : (season : List ℕ) (r : Result ℕ Refusal) → r ≡ checked_season season → (r ≡ checked_season season) × (file_told r ≡ season_table season)
 told season = beside file_told (checked_season season) (season_table season) (check_told season)
 
 pub returns-then-not-counted_right : goal.returns-then-not-counted_right

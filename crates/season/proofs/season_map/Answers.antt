@@ -5,4 +5,4 @@ use Rattle.season.proofs.season_map.Goals as goal
 
 pub map_among-requires : goal.map_among-requires
 map_among-requires c =
-    (valid_tells _ _ (sym c.in-Valid.ensures.is)).few
+    (valid_tells _ _ (sym c.in_ok-count.ensures.is)).few

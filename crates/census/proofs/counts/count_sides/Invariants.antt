@@ -1,11 +1,7 @@
 -- `count_sides` meets its contract: the sums count the sides of the points passed.
 use mathlib.Core.Path.{◌≡◌}
-use Prim.Native.Nat.{◌≤◌, ◌-◌}
 use Rattle.census.proofs.CensusLaws.{links_below, borders_below}
 use Rattle.census.proofs.counts.count_sides.Given as goal
 
 abbrev pub invariant-loop-n : goal.invariant-loop-n
-invariant-loop-n l = (l.n ≤ 128) × ((l.links ≡ links_below l.store l.n) × (l.borders ≡ borders_below l.store l.n))
-
-abbrev pub decreases-loop-n : goal.decreases-loop-n
-decreases-loop-n l = 128 - l.n
+invariant-loop-n l = (l.links ≡ links_below l.store l.n) × (l.borders ≡ borders_below l.store l.n)

@@ -5,7 +5,6 @@ use lib.Ieee.{Float}
 use lib.ListN.{length}
 use Rattle.control_point.specs.Direction.{flip_of}
 use Rattle.control_point.specs.Told.{outcome_told}
-use Rattle.control_point.specs.declared.refusal.Outcome.TheVariants.{Done}
 use Rattle.control_point.specs.declared.refusal.Refusal.TheVariants.{NoPoint}
 use Rattle.control_point.specs.declared.t_mesh_control_point.Side.TheVariants.{Link}
 use Rattle.control_point.specs.declared.t_mesh_direction.TmeshDirection.{TmeshDirection}
@@ -17,6 +16,7 @@ use Rattle.store.specs.declared.store.Store.{Store}
 use Rattle.connection.proofs.Settled.{first_room, other_room, connect_unmade, answered, not_done}
 use Rattle.connection.proofs.Stored.{linked_stored}
 use Rattle.connection.proofs.connect.connect.Goals as goal
+use Rattle.std.specs.Prelude.{Ok}
 
 -- the promises beside the equation follow from it
 module _ (store : Store) (first other : ℕ) (direction : TmeshDirection) (interval : Float) (r : Changed) where
@@ -25,7 +25,7 @@ module _ (store : Store) (first other : ℕ) (direction : TmeshDirection) (inter
 
   abbrev Links : Changed → Type 0
   Links x =
-      x.outcome ≡ Done
+      x.outcome ≡ Ok tt
       → (store_sides x.store first direction ≡ Link other interval) × (store_sides x.store other (flip_of direction) ≡ Link first interval)
 
   links_of : length store.points ≡ 128 → r ≡ connect_points store first other direction interval → Links r
@@ -52,7 +52,7 @@ pub returns-in_default : goal.returns-in_default
 returns-in_default c =
     let a = c.args in
     let is : record { outcome = c.may_connect-outcome.result; store = a.store } ≡ connect_points a.store a.first a.other a.direction a.interval =
-    not_done _ (linked a.store a.first a.other a.direction a.interval) a.store c.in_default.not-Done
+    not_done _ (linked a.store a.first a.other a.direction a.interval) a.store (c.in_default.not-Ok tt)
     ∙ answered a.store a.first a.other a.direction a.interval (sym c.both_made.ensures ∙ c.if-not-both_made.false) _ _ c.point_at-near.ensures
     c.point_at-far.ensures
     _
@@ -82,8 +82,8 @@ returns c =
     c.with_point-2.ensures)
     ∙ answered a.store a.first a.other a.direction a.interval (sym c.both_made.ensures ∙ c.if-not-both_made.false) _ _ c.point_at-near.ensures
     c.point_at-far.ensures
-    Done
-    (sym c.in-Done.is ∙ c.may_connect-outcome.ensures) in
+    (Ok tt)
+    (sym c.in-Ok.is ∙ c.may_connect-outcome.ensures) in
     record {
       is = is;
       told = told_of a.store a.first a.other a.direction a.interval _ is;

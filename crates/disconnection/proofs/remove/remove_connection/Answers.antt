@@ -6,7 +6,6 @@ use lib.ListN.{length}
 use Rattle.control_point.specs.Direction.{flip_of}
 use Rattle.control_point.proofs.PointLaws.{is_made_room}
 use Rattle.control_point.specs.Told.{outcome_told}
-use Rattle.control_point.specs.declared.refusal.Outcome.TheVariants.{Done}
 use Rattle.control_point.specs.declared.refusal.Refusal.TheVariants.{NoPoint}
 use Rattle.control_point.specs.declared.t_mesh_control_point.Side.TheVariants.{Link, Opening}
 use Rattle.control_point.specs.declared.t_mesh_direction.TmeshDirection.{TmeshDirection}
@@ -18,6 +17,7 @@ use Rattle.store.specs.declared.store.Store.{Store}
 use Rattle.disconnection.proofs.Opened.{opened_settled, decided}
 use Rattle.disconnection.proofs.Stored.{opened_stored}
 use Rattle.disconnection.proofs.remove.remove_connection.Goals as goal
+use Rattle.std.specs.Prelude.{Ok}
 
 -- the promises beside the equation follow from it
 module _ (store : Store) (n : ℕ) (direction : TmeshDirection) (r : Changed) where
@@ -26,7 +26,7 @@ module _ (store : Store) (n : ℕ) (direction : TmeshDirection) (r : Changed) wh
 
   abbrev Opens : Changed → Type 0
   Opens x =
-      x.outcome ≡ Done
+      x.outcome ≡ Ok tt
       → (store_sides x.store n direction ≡ Opening)
       × ((m : ℕ) (interval : Float) → store_sides store n direction ≡ Link m interval → store_sides x.store m (flip_of direction) ≡ Opening)
 

@@ -4,7 +4,6 @@ use mathlib.Core.Path.{◌≡◌, ◌∙◌, sym, ap, subst}
 use lib.ListN.{length}
 use Rattle.control_point.proofs.PointLaws.{is_made_room}
 use Rattle.control_point.specs.Told.{outcome_told}
-use Rattle.control_point.specs.declared.refusal.Outcome.TheVariants.{Done}
 use Rattle.control_point.specs.declared.refusal.Refusal.TheVariants.{NoPoint}
 use Rattle.control_point.specs.declared.t_mesh_control_point.Side.TheVariants.{Opening}
 use Rattle.control_point.specs.declared.t_mesh_direction.TmeshDirection.{TmeshDirection}
@@ -14,14 +13,15 @@ use Rattle.store.proofs.TablesLaws.{edge_told, edge_opens}
 use Rattle.store.specs.declared.store.Changed.{Changed}
 use Rattle.store.specs.declared.store.Store.{Store}
 use Rattle.edge.proofs.edge.remove_edge_condition.Goals as goal
+use Rattle.std.specs.Prelude.{Ok}
 
 -- the promises beside the equation follow from it
 module _ (store : Store) (n : ℕ) (direction : TmeshDirection) (r : Changed) where
   told_of : r ≡ remove_edge_condition store n direction → outcome_told r.outcome ≡ remove_edge_condition_table store n direction
   told_of is = ap (λ (x : Changed). outcome_told x.outcome) is ∙ edge_told store n direction
 
-  opens_of : length store.points ≡ 128 → r ≡ remove_edge_condition store n direction → r.outcome ≡ Done → store_sides r.store n direction ≡ Opening
-  opens_of room is = subst (λ (x : Changed). x.outcome ≡ Done → store_sides x.store n direction ≡ Opening) (sym is) (edge_opens store n direction room)
+  opens_of : length store.points ≡ 128 → r ≡ remove_edge_condition store n direction → r.outcome ≡ Ok tt → store_sides r.store n direction ≡ Opening
+  opens_of room is = subst (λ (x : Changed). x.outcome ≡ Ok tt → store_sides x.store n direction ≡ Opening) (sym is) (edge_opens store n direction room)
 
 pub returns-then-not-is_made : goal.returns-then-not-is_made
 unfolding remove_edge_condition

@@ -5,7 +5,6 @@ use lib.Ieee.{Float}
 use lib.ListN.{length}
 use Rattle.control_point.proofs.PointLaws.{is_made_room}
 use Rattle.control_point.specs.Told.{outcome_told}
-use Rattle.control_point.specs.declared.refusal.Outcome.TheVariants.{Done}
 use Rattle.control_point.specs.declared.refusal.Refusal.TheVariants.{NoPoint}
 use Rattle.control_point.specs.declared.t_mesh_control_point.Side.TheVariants.{Border}
 use Rattle.control_point.specs.declared.t_mesh_direction.TmeshDirection.{TmeshDirection}
@@ -16,14 +15,15 @@ use Rattle.store.specs.declared.store.Changed.{Changed}
 use Rattle.store.specs.declared.store.Store.{Store}
 use Rattle.edge.proofs.Weighted.{weighted_border}
 use Rattle.edge.proofs.edge.set_edge_con_weight.Goals as goal
+use Rattle.std.specs.Prelude.{Ok}
 
 -- the promises beside the equation follow from it
 module _ (store : Store) (n : ℕ) (direction : TmeshDirection) (weight : Float) (r : Changed) where
   told_of : r ≡ set_edge_con_weight store n direction weight → outcome_told r.outcome ≡ set_edge_con_weight_table store n direction
   told_of is = ap (λ (x : Changed). outcome_told x.outcome) is ∙ weight_told store n direction weight
 
-  border_of : length store.points ≡ 128 → r ≡ set_edge_con_weight store n direction weight → r.outcome ≡ Done → store_sides r.store n direction ≡ Border weight
-  border_of room is = subst (λ (x : Changed). x.outcome ≡ Done → store_sides x.store n direction ≡ Border weight) (sym is) (weight_border store n direction weight room)
+  border_of : length store.points ≡ 128 → r ≡ set_edge_con_weight store n direction weight → r.outcome ≡ Ok tt → store_sides r.store n direction ≡ Border weight
+  border_of room is = subst (λ (x : Changed). x.outcome ≡ Ok tt → store_sides x.store n direction ≡ Border weight) (sym is) (weight_border store n direction weight room)
 
 pub returns-then-not-is_made : goal.returns-then-not-is_made
 unfolding set_edge_con_weight

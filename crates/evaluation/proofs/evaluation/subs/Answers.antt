@@ -16,17 +16,14 @@ loop-n-preserved c =
     let m = c.if-not-map.map in
     let k = c.loop-n in
     let o = c.if-listed-n in
-    let h : k.n < 128 = omega arith in (
-      omega arith,
-      elim o.branch [
-        | then-listed-n w ↦
-            sums_added m a.s a.t k.n k.x k.y k.z k.weight o.x o.y o.z o.weight h k.invariant.1
-            w.share_of-share.result w.if-listed-n.true w.share_of-share.ensures w.x-is w.y-is w.z-is w.weight-is
-        | else-listed-n w ↦
-            sums_passed m a.s a.t k.n k.x k.y k.z k.weight o.x o.y o.z o.weight h k.invariant.1
-            w.if-listed-n.false w.x-is w.y-is w.z-is w.weight-is
-      ],
-    )
+    let h : k.n < 128 = omega arith in elim o.branch [
+      | then-listed-n w ↦
+          sums_added m a.s a.t k.n k.x k.y k.z k.weight o.x o.y o.z o.weight h k.invariant
+          w.share_of-share.result w.if-listed-n.true w.share_of-share.ensures w.x-is w.y-is w.z-is w.weight-is
+      | else-listed-n w ↦
+          sums_passed m a.s a.t k.n k.x k.y k.z k.weight o.x o.y o.z o.weight h k.invariant
+          w.if-listed-n.false w.x-is w.y-is w.z-is w.weight-is
+    ]
 
 pub returns : goal.returns
 returns c =
@@ -42,5 +39,5 @@ returns c =
           ready_built millionth a.map o m w.generate_knot_vectors-generated.result w.generate_knot_vectors-generated.ensures.is w.if-not-map.true w.outcome-is w.map-is
       | else-not-map w ↦ ready_kept millionth a.map o m w.if-not-map.false w.outcome-is w.map-is
     ])
-    (sums_end m a.s a.t k.n k.x k.y k.z k.weight h k.invariant.1)
+    (sums_end m a.s a.t k.n k.x k.y k.z k.weight h k.invariant)
     c.answer_by-answer.ensures)) in record { is = all.0; told = all.1 }

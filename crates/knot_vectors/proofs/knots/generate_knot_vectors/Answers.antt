@@ -13,7 +13,7 @@ use Rattle.knot_vectors.specs.declared.knots.Generated.{Generated}
 use Rattle.knot_vectors.specs.declared.knots.ListedKnots.{ListedKnots}
 use Rattle.knot_vectors.proofs.knots.generate_knot_vectors.Goals as goal
 
--- what was built, with the paper's closeness
+-- what was built, with the closeness of a map that states none
 built : (map : Tmesh) (held : ListedKnots) (e : Float) → held ≡ held_knots map.knots (all_knots e map) → e ≡ millionth → held ≡ held_knots map.knots (all_knots millionth map)
 built map held e is close = is ∙ ap (λ (x : Float). held_knots map.knots (all_knots x map)) close
 
@@ -21,12 +21,12 @@ built map held e is close = is ∙ ap (λ (x : Float). held_knots map.knots (all
 promised : (map : Tmesh) (r : Generated) → r ≡ generate_knot_vectors millionth map → (r ≡ generate_knot_vectors millionth map) × (outcome_told r.outcome ≡ generated_table millionth map)
 promised map r = beside (λ (x : Generated). outcome_told x.outcome) _ _ (generated_told millionth map) r
 
-pub returns-in-Refused : goal.returns-in-Refused
+pub returns-in-Err : goal.returns-in-Err
 unfolding generate_knot_vectors
-returns-in-Refused c =
+returns-in-Err c =
     let all = (let a = c.args in
     promised a.map _
-    (keeping_refused a.map (all_knots millionth a.map) _ (built a.map _ _ c.listed_knots-built.ensures c.closeness.ensures) c.in-Refused.refusal c.in-Refused.is)) in record { is = all.0; told = all.1 }
+    (keeping_refused a.map (all_knots millionth a.map) _ (built a.map _ _ c.listed_knots-built.ensures c.closeness.ensures) c.in-Err.refusal c.in-Err.is)) in record { is = all.0; told = all.1 }
 
 pub returns : goal.returns
 unfolding generate_knot_vectors

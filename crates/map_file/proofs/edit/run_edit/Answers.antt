@@ -8,7 +8,6 @@ use lib.Ieee.{Float}
 use lib.ListN.{length-set}
 use Rattle.control_point.specs.Small.{millionth}
 use Rattle.insertion.specs.Withdrawal.{InsertsBy}
-use Rattle.insertion.specs.declared.insertion.InsertAnswer.{InsertAnswer}
 use Rattle.lent_mesh.proofs.InsertionLaws.{InsertsIntoMesh, lent_inserts}
 use Rattle.lent_mesh.specs.LentMesh.{row_of}
 use Rattle.lent_points.specs.Lent.{Points, lent_points}
@@ -17,9 +16,12 @@ use Rattle.map_format.specs.declared.format.EditTarget.{EditTarget}
 use Rattle.t_mesh.specs.Tmesh.{listed_in}
 use Rattle.map_file.proofs.edit.run_edit.Goals as goal
 use Rattle.map_file.proofs.edit.run_edit.Goals.{After-insert_by_rule-answer}
+use Rattle.std.specs.Prelude.{Result}
+use Rattle.control_point.specs.declared.refusal.Refusal.{Refusal}
+use Rattle.insertion.specs.declared.insertion.Insertion.{Insertion}
 
 -- what the insertion promises, of the edit that was read
-edited : (withdraws : Bool) (points after : Points) (made : ℕ) (positions : List (List Float)) (listed : List Bool) (edit : Edit) (answer : InsertAnswer) (target : EditTarget) (b : Bool) (e : Float)
+edited : (withdraws : Bool) (points after : Points) (made : ℕ) (positions : List (List Float)) (listed : List Bool) (edit : Edit) (answer : Result Insertion Refusal) (target : EditTarget) (b : Bool) (e : Float)
     → target ≡ target_of edit → b ≡ listed_in listed target.point → e ≡ millionth → InsertsBy withdraws e points made b target.point target.direction target.ratio answer after
     → InsertsIntoMesh withdraws millionth points made positions listed edit.point edit.direction edit.ratio edit.position answer after
 edited withdraws points after made positions listed edit answer target b e read known small inserts =
@@ -32,14 +34,14 @@ edited withdraws points after made positions listed edit answer target b e read 
 
 inserts : (c : After-insert_by_rule-answer) → let a = c.args in
     let edit = edit_at a.file.now a.at in
-    let q = c.insert_by_rule-answer.new in
-    InsertsIntoMesh a.withdraws millionth (lent_points a.kinds.now a.numbers.now a.intervals.now a.coordinates.now) a.made.now a.positions.now a.listed.now edit.point edit.direction edit.ratio edit.position c.insert_by_rule-answer.result
-    (lent_points q.kinds q.numbers q.intervals q.coordinates)
+    let mesh = a.mesh.now in
+    InsertsIntoMesh a.withdraws millionth (lent_points mesh.points) mesh.made mesh.positions mesh.listed edit.point edit.direction edit.ratio edit.position c.insert_by_rule-answer.result
+    (lent_points c.insert_by_rule-answer.new.points)
 inserts c =
     let a = c.args in
-    let q = c.insert_by_rule-answer.new in
-    edited a.withdraws (lent_points a.kinds.now a.numbers.now a.intervals.now a.coordinates.now) (lent_points q.kinds q.numbers q.intervals q.coordinates) a.made.now a.positions.now a.listed.now
-    (edit_at a.file.now a.at) c.insert_by_rule-answer.result c.target_from-target.result _ _ c.target_from-target.ensures c.lent_listed.ensures c.closeness.ensures c.insert_by_rule-answer.ensures.1
+    let mesh = a.mesh.now in
+    edited a.withdraws (lent_points mesh.points) (lent_points c.insert_by_rule-answer.new.points) mesh.made mesh.positions mesh.listed
+    (edit_at a.file.now a.at) c.insert_by_rule-answer.result c.target_from-target.result _ _ c.target_from-target.ensures c.lent_listed-listed.ensures c.closeness.ensures c.insert_by_rule-answer.ensures.1
 
 pub returns-then-not-leaves_point : goal.returns-then-not-leaves_point
 returns-then-not-leaves_point c =
@@ -50,22 +52,22 @@ returns-then-not-leaves_point c =
       room = (c.insert_by_rule-answer.ensures.0, c.requires.1);
     }
 
-pub bounds-positions-p : goal.bounds-positions-p
-bounds-positions-p c = (inserts (goal.at.bounds-positions-p c).After-insert_by_rule-answer).room (sym c.leaves_point.ensures ∙ c.if-not-leaves_point.false)
+pub bounds-mesh-p : goal.bounds-mesh-p
+bounds-mesh-p c = (inserts (goal.at.bounds-mesh-p c).After-insert_by_rule-answer).room (sym c.leaves_point.ensures ∙ c.if-not-leaves_point.false)
 
-pub bounds-listed-p : goal.bounds-listed-p
-bounds-listed-p c = (inserts (goal.at.bounds-listed-p c).After-insert_by_rule-answer).room (sym c.leaves_point.ensures ∙ c.if-not-leaves_point.false)
+pub bounds-mesh-p-2 : goal.bounds-mesh-p-2
+bounds-mesh-p-2 c = (inserts (goal.at.bounds-mesh-p-2 c).After-insert_by_rule-answer).room (sym c.leaves_point.ensures ∙ c.if-not-leaves_point.false)
 
-pub overflow_add-made : goal.overflow_add-made
-overflow_add-made c = omega (arith, (inserts (goal.at.overflow_add-made c).After-insert_by_rule-answer).room (sym c.leaves_point.ensures ∙ c.if-not-leaves_point.false))
+pub overflow_add-mesh : goal.overflow_add-mesh
+overflow_add-mesh c = omega (arith, (inserts (goal.at.overflow_add-mesh c).After-insert_by_rule-answer).room (sym c.leaves_point.ensures ∙ c.if-not-leaves_point.false))
 
 pub returns : goal.returns
 returns c =
-    let a = c.args in
+    let mesh = c.args.mesh.now in
     let full = c.requires.1 in
     let i = inserts (goal.at.returns c).After-insert_by_rule-answer in
     record {
       answer = i.answered;
       mesh = i.placed (sym c.leaves_point.ensures ∙ c.if-not-leaves_point.false) full.0 _ (c.row_of.ensures ∙ ap row_of c.edit_position.ensures) _ c.is_done.ensures;
-      room = (c.insert_by_rule-answer.ensures.0, (length-set a.positions.now a.made.now _ ∙ full.0, length-set a.listed.now a.made.now _ ∙ full.1));
+      room = (c.insert_by_rule-answer.ensures.0, (length-set mesh.positions mesh.made _ ∙ full.0, length-set mesh.listed mesh.made _ ∙ full.1));
     }

@@ -1,26 +1,16 @@
--- `headings_right` meets its contract: what is left decides as all did, until a wrong one is met or none is left.
-use Prim.Native.Nat.{ℕ}
-use mathlib.Core.Path.{◌≡◌, ap, ◌∙◌}
-use native.Mathlib.Omega.{arith}
-use Rattle.map_format.specs.Format.{headings_right}
-use Rattle.map_format.proofs.FormatLaws.{heading_right, heading_wrong}
+-- `headings_right` meets its contract: `all` asks what the definition asks of each edit.
+use Rattle.std.proofs.Common.{ℕ, ◌+◌, ◌*◌, ◌∙◌, ltb, rules, arith, refl}
+use Rattle.std.proofs.lemmas.Iterator.{YieldsList-from_range}
+use Rattle.std.proofs.lemmas.Iterator.Search.{all_from_yields_List}
+use borrow.Author.Tests.{tests}
+use Rattle.big_endian.specs.BigEndian.{byte_at}
+use Rattle.map_format.specs.Format.{edits_at, edit_bytes, direction_in}
+use Rattle.map_format.proofs.FormatLaws.{all_headings}
 use Rattle.map_format.proofs.format.headings_right.Goals as goal
 
-pub returns-then-byte_at-ge-DIRECTIONS : goal.returns-then-byte_at-ge-DIRECTIONS
-returns-then-byte_at-ge-DIRECTIONS c =
-    let l = c.loop-left in
-    let bytes = c.args.bytes.now in
-    heading_wrong l.left bytes l.at (omega arith) (omega (arith, c.byte_at.ensures)) ∙ l.invariant.1
-
-pub loop-left-preserved : goal.loop-left-preserved
-loop-left-preserved c =
-    let l = c.loop-left in
-    let bytes = c.args.bytes.now in
-    (omega arith, heading_right l.left bytes l.at (omega arith) (omega (arith, c.byte_at.ensures)) ∙ l.invariant.1)
-
 pub returns : goal.returns
-unfolding headings_right
 returns c =
-    let l = c.loop-left in
-    let none : 0 ≡ l.left = omega arith in
-    ap (λ (n : ℕ). headings_right n c.args.bytes.now l.at) none ∙ l.invariant.1
+    let bytes = c.args.bytes.now in
+    let count = c.args.count in
+    all_from_yields_List (λ (n : ℕ). ltb (byte_at bytes (edits_at + n * edit_bytes + direction_in)) 4) _ _ _ c.all.ensures.ran (YieldsList-from_range 0 count count refl (omega arith)) (λ x b q k. search (rules, tests))
+    ∙ all_headings bytes 0 count

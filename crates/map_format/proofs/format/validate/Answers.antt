@@ -6,13 +6,14 @@ use native.Mathlib.Omega.{arith}
 use Rattle.control_point.proofs.ToldLaws.{beside}
 use Rattle.counted_file.specs.Counted.{file_told}
 use Rattle.counted_file.proofs.CountedLaws.{length_tells}
-use Rattle.counted_file.specs.declared.FileCheck.{FileCheck}
 use Rattle.map_format.specs.Format.{edits_at, edit_bytes, most_edits, is_version, checked_file, file_table}
 use Rattle.map_format.proofs.FormatLaws.{file_told_lem}
 use Rattle.map_format.proofs.format.validate.Goals as goal
+use Rattle.std.specs.Prelude.{Result}
+use Rattle.control_point.specs.declared.refusal.Refusal.{Refusal}
 
 -- what it tells follows from what it is
-told : (bytes : List ℕ) (r : FileCheck) → r ≡ checked_file bytes → (r ≡ checked_file bytes) × (file_told r ≡ file_table bytes)
+told : (bytes : List ℕ) (r : Result ℕ Refusal) → r ≡ checked_file bytes → (r ≡ checked_file bytes) × (file_told r ≡ file_table bytes)
 told bytes = beside file_told (checked_file bytes) (file_table bytes) (file_told_lem bytes)
 
 pub returns-then-not-counted_right : goal.returns-then-not-counted_right

@@ -3,10 +3,10 @@ use mathlib.Core.Path.{refl}
 use Rattle.map_replay.specs.Answers.{bytes_taken}
 use Rattle.map_replay.proofs.answers.bytes_taken.Goals as goal
 
-pub returns-in-Done : goal.returns-in-Done
+pub returns-in-Ok : goal.returns-in-Ok
 unfolding bytes_taken
-returns-in-Done c = rw c.in-Done.is refl
+returns-in-Ok c = rw c.in-Ok.is refl
 
-pub returns-in-Refused : goal.returns-in-Refused
+pub returns-in-Err : goal.returns-in-Err
 unfolding bytes_taken
-returns-in-Refused c = rw c.in-Refused.is refl
+returns-in-Err c = rw c.in-Err.is refl

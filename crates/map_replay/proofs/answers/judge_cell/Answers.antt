@@ -3,10 +3,10 @@ use mathlib.Core.Path.{refl}
 use Rattle.map_replay.specs.Answers.{cell_judged}
 use Rattle.map_replay.proofs.answers.judge_cell.Goals as goal
 
-pub returns-in-Is : goal.returns-in-Is
+pub returns-in-Ok : goal.returns-in-Ok
 unfolding cell_judged
-returns-in-Is c = rw (c.both.ensures, c.cell_is_right.ensures, c.after.ensures, c.byte_at-number.ensures, c.in-Is.is) refl
+returns-in-Ok c = rw (c.both.ensures, c.cell_is_right.ensures, c.after.ensures, c.byte_at-number.ensures, c.in-Ok.is) refl
 
-pub returns-in-Refused : goal.returns-in-Refused
+pub returns-in-Err : goal.returns-in-Err
 unfolding cell_judged
-returns-in-Refused c = rw (c.number.ensures, c.byte_at-number.ensures, c.in-Refused.is) refl
+returns-in-Err c = rw (c.number.ensures, c.byte_at-number.ensures, c.in-Err.is) refl

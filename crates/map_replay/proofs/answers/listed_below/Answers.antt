@@ -16,16 +16,16 @@ counted_too :
 counted_too listed i count one is counted o l = count_more i count one (listed_in listed) counted (o ∙ ap (λ (b : Bool). cond b 1 0) l)
 
 pub loop-i-init : goal.loop-i-init
-loop-i-init c = (omega arith, sym (count_none _))
+loop-i-init c = sym (count_none _)
 
 pub overflow_add-count : goal.overflow_add-count
 overflow_add-count c =
     let l = c.loop-i in
     let listed = c.args.listed in
-    omega (arith, counted_too listed l.i l.count _ _ l.invariant.1 c.one_where-count.ensures c.is_listed.ensures, count_few (l.i + 1) (listed_in listed))
+    omega (arith, counted_too listed l.i l.count _ _ l.invariant c.one_where-count.ensures c.is_listed.ensures, count_few (l.i + 1) (listed_in listed))
 
 pub loop-i-preserved : goal.loop-i-preserved
-loop-i-preserved c = let l = c.loop-i in (omega arith, counted_too c.args.listed l.i l.count _ _ l.invariant.1 c.one_where-count.ensures c.is_listed.ensures)
+loop-i-preserved c = let l = c.loop-i in counted_too c.args.listed l.i l.count _ _ l.invariant c.one_where-count.ensures c.is_listed.ensures
 
 pub returns : goal.returns
 returns c =
@@ -33,6 +33,6 @@ returns c =
     let a = c.args in
     let whole : l.i ≡ a.n = omega arith in
     record {
-      value = l.invariant.1 ∙ ap (λ (i : ℕ). count_below i (listed_in a.listed)) whole;
-      bound = omega (arith, l.invariant.1, count_few l.i (listed_in a.listed));
+      value = l.invariant ∙ ap (λ (i : ℕ). count_below i (listed_in a.listed)) whole;
+      bound = omega (arith, l.invariant, count_few l.i (listed_in a.listed));
     }

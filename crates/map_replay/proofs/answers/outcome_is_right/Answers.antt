@@ -3,10 +3,10 @@ use mathlib.Core.Path.{refl}
 use Rattle.map_replay.specs.Answers.{outcome_is_right}
 use Rattle.map_replay.proofs.answers.outcome_is_right.Goals as goal
 
-pub returns-in-Done : goal.returns-in-Done
+pub returns-in-Ok : goal.returns-in-Ok
 unfolding outcome_is_right
-returns-in-Done c = rw (c.both.ensures, c.floats_are_right.ensures, c.in-Done.is) refl
+returns-in-Ok c = rw (c.both.ensures, c.floats_are_right.ensures, c.in-Ok.is) refl
 
-pub returns-in-Refused : goal.returns-in-Refused
+pub returns-in-Err : goal.returns-in-Err
 unfolding outcome_is_right
-returns-in-Refused c = rw (c.both-in-Refused.ensures, c.floats_are_right-in-Refused.ensures, c.number.ensures, c.in-Refused.is) refl
+returns-in-Err c = rw (c.both-in-Err.ensures, c.floats_are_right-in-Err.ensures, c.number.ensures, c.in-Err.is) refl

@@ -1,11 +1,7 @@
 -- `rows_are_right` meets its contract: the loop has compared the rows of the listed points among the first n.
-use Prim.Native.Nat.{◌-◌, ◌≤◌}
-use mathlib.Core.Path.{◌≡◌}
+use Rattle.std.specs.Prelude.{◌≡◌}
 use Rattle.map_replay.specs.Answers.{rows_are_right}
 use Rattle.map_replay.proofs.answers.rows_are_right.Given as goal
 
 abbrev pub invariant-loop-n : goal.invariant-loop-n
-invariant-loop-n l = (l.n ≤ l.made) × (l.right ≡ rows_are_right l.n l.listed l.knots l.bytes)
-
-abbrev pub decreases-loop-n : goal.decreases-loop-n
-decreases-loop-n l = l.made - l.n
+invariant-loop-n l = l.right ≡ rows_are_right l.n l.listed l.knots l.bytes

@@ -7,7 +7,7 @@ use Rattle.navigation.proofs.walk.navigate.Given as goal
 
 abbrev pub invariant-loop-travel : goal.invariant-loop-travel
 invariant-loop-travel l =
-    let f = lent_sides l.kinds l.numbers l.intervals in
+    let f = lent_sides l.sides in
     (l.moves ≤ l.made) × (walk_of f l.made l.start l.travel l.watch ≡ onward (l.made - l.moves) f l.made l.travel l.watch l.at l.sum l.moves)
 
 abbrev pub decreases-loop-travel : goal.decreases-loop-travel

@@ -9,7 +9,7 @@ returns-in_default c =
     let a = c.args in
     c.no_knots.ensures
     ∙ sym
-    (knots_by_lem a.closeness (lent_sides a.kinds.now a.numbers.now a.intervals.now) a.made a.n a.s a.t
+    (knots_by_lem a.closeness (lent_sides a.sides.now) a.made a.n a.s a.t
     ∙ rw (sym c.two_entries-up.ensures, sym c.two_entries-right.ensures, sym c.two_entries-down.ensures, sym c.two_entries-left.ensures, sym c.outcome_of-outcome.ensures, c.in_default.is))
 
 pub returns : goal.returns
@@ -17,5 +17,5 @@ returns c =
     let a = c.args in
     c.knots_about.ensures
     ∙ sym
-    (knots_by_lem a.closeness (lent_sides a.kinds.now a.numbers.now a.intervals.now) a.made a.n a.s a.t
-    ∙ rw (sym c.two_entries-up.ensures, sym c.two_entries-right.ensures, sym c.two_entries-down.ensures, sym c.two_entries-left.ensures, sym c.outcome_of-outcome.ensures, c.in-Done.is))
+    (knots_by_lem a.closeness (lent_sides a.sides.now) a.made a.n a.s a.t
+    ∙ rw (sym c.two_entries-up.ensures, sym c.two_entries-right.ensures, sym c.two_entries-down.ensures, sym c.two_entries-left.ensures, sym c.outcome_of-outcome.ensures, c.in-Ok.is))

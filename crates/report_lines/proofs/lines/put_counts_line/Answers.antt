@@ -4,4 +4,5 @@ use Rattle.report_lines.proofs.lines.put_counts_line.Goals as goal
 
 pub returns : goal.returns
 returns c =
-    put_then c.put_labelled-made.ensures (put_then c.put_labelled-listed.ensures (put_then c.put_labelled-links.ensures c.put_text.ensures))
+    let line = put_then c.put_labelled-made.ensures (put_then c.put_labelled-listed.ensures (put_then c.put_labelled-links.ensures c.put_text.ensures)) in
+    rw (c.from.ensures, c.from-2.ensures, c.from-3.ensures) at line

@@ -1,5 +1,5 @@
 -- `put_open_lines` meets its contract: at each turn the lines that are left, put behind what is there, give the whole, whichever sides the list is the answer of.
-use Prim.Native.Nat.{ℕ, ◌+◌, ◌-◌, ◌<◌, ◌≤◌}
+use Prim.Native.Nat.{ℕ, ◌+◌, ◌<◌, ◌≤◌}
 use mathlib.Core.Path.{◌≡◌, ap}
 use mathlib.Core.List.{List, ◌++◌}
 use native.Mathlib.Omega.{arith}
@@ -36,15 +36,15 @@ pub put_open_line-end-requires : goal.put_open_line-end-requires
 put_open_line-end-requires c =
     let sides = openings_of c.args.store in
     let so = c.openings-list.ensures in
-    left_fits (c.loop-i.invariant.1 sides so) (line c.openings-list.result c.loop-i.i) (open_lines (drop (c.loop-i.i + 1) sides))
+    left_fits (c.loop-i.invariant sides so) (line c.openings-list.result c.loop-i.i) (open_lines (drop (c.loop-i.i + 1) sides))
     (next c.openings-list.result c.loop-i.i (omega arith) sides so) c.requires
 
 pub loop-i-preserved : goal.loop-i-preserved
-loop-i-preserved c = (omega arith, (λ sides so. left_next (c.loop-i.invariant.1 sides so) (open_lines (drop (c.loop-i.i + 1) sides)) (next c.openings-list.result c.loop-i.i (omega arith) sides so) c.put_open_line-end.ensures))
+loop-i-preserved c = λ sides so. left_next (c.loop-i.invariant sides so) (open_lines (drop (c.loop-i.i + 1) sides)) (next c.openings-list.result c.loop-i.i (omega arith) sides so) c.put_open_line-end.ensures
 
 pub returns : goal.returns
 returns c =
     let sides = openings_of c.args.store in
     let so = c.openings-list.ensures in
-    left_none (c.loop-i.invariant.1 sides so)
+    left_none (c.loop-i.invariant sides so)
     (open_lines_none sides c.loop-i.i (omega (arith, ap (λ (answer : Openings). answer.count) so, answer_count sides)))

@@ -1,5 +1,4 @@
 -- `put_open_lines` meets its contract: at each turn the lines that are left, put behind what is there, give the whole, whichever sides the list is the answer of.
-use Prim.Native.Nat.{◌-◌, ◌≤◌}
 use mathlib.Core.Path.{◌≡◌}
 use mathlib.Core.List.{List}
 use lib.ListN.{drop}
@@ -10,8 +9,4 @@ use Rattle.report_lines.proofs.lines.put_open_lines.Given as goal
 
 abbrev pub invariant-loop-i : goal.invariant-loop-i
 invariant-loop-i l =
-    (l.i ≤ l.count)
-    × ((sides : List PointSide) → l.list ≡ openings_answer sides → Left l.initial.out l.at (open_lines sides) l.out l.end (open_lines (drop l.i sides)))
-
-abbrev pub decreases-loop-i : goal.decreases-loop-i
-decreases-loop-i l = l.count - l.i
+    (sides : List PointSide) → l.list ≡ openings_answer sides → Left l.initial.out l.at (open_lines sides) l.out l.end (open_lines (drop l.i sides))

@@ -1,12 +1,8 @@
 -- `put_text` meets its contract: after i turns the first i bytes of the text are written.
-use Prim.Native.Nat.{◌-◌, ◌≤◌}
 use mathlib.Core.Path.{◌≡◌}
-use lib.ListN.{length, take}
+use lib.ListN.{take}
 use Rattle.big_endian.specs.Written.{written}
 use Rattle.report_text.proofs.text.put_text.Given as goal
 
 abbrev pub invariant-loop-i : goal.invariant-loop-i
-invariant-loop-i l = (l.i ≤ length l.text) × (l.out ≡ written l.initial.out l.at (take l.i l.text))
-
-abbrev pub decreases-loop-i : goal.decreases-loop-i
-decreases-loop-i l = length l.text - l.i
+invariant-loop-i l = l.out ≡ written l.initial.out l.at (take l.i l.text)

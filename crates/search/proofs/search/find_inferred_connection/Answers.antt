@@ -6,21 +6,22 @@ use Rattle.control_point.specs.declared.t_mesh_direction.TmeshDirection.{TmeshDi
 use Rattle.search.specs.Search.{found_told, find_inferred_connection}
 use Rattle.search.specs.Table.{search_table}
 use Rattle.search.proofs.TableLaws.{search_told}
-use Rattle.search.specs.declared.search.Found.{Found}
-use Rattle.search.specs.declared.search.Found.TheVariants.{Failed}
 use Rattle.search.proofs.search.find_inferred_connection.Goals as goal
+use Rattle.std.specs.Prelude.{Option, Result}
+use Rattle.control_point.specs.declared.refusal.Refusal.{Refusal}
+use Rattle.control_point.specs.declared.t_mesh_control_point.LinkEnd.{LinkEnd}
 
-told_of : (e : Float) (sides : Sides) (made p : ℕ) (f : TmeshDirection) (r : Found) → r ≡ find_inferred_connection e sides made p f → found_told r ≡ search_table e sides made p f
+told_of : (e : Float) (sides : Sides) (made p : ℕ) (f : TmeshDirection) (r : Result (Option LinkEnd) Refusal) → r ≡ find_inferred_connection e sides made p f → found_told r ≡ search_table e sides made p f
 told_of e sides made p f r is = ap found_told is ∙ search_told e sides made p f
 
-pub returns-in-Refused-clause-told : goal.returns-in-Refused-clause-told
+pub returns-in_err-corner-clause-told : goal.returns-in_err-corner-clause-told
 unfolding find_inferred_connection
-returns-in-Refused-clause-told c = told_of c.args.closeness (lent_sides c.args.kinds.now c.args.numbers.now c.args.intervals.now) c.args.made c.args.p c.args.f (Failed c.in-Refused.refusal) (search rules)
+returns-in_err-corner-clause-told c = told_of c.args.closeness (lent_sides c.args.sides.now) c.args.made c.args.p c.args.f c.from_residual.result (search rules)
 
-pub returns-in-Refused-navigate-clause-told : goal.returns-in-Refused-navigate-clause-told
+pub returns-in_err-start-clause-told : goal.returns-in_err-start-clause-told
 unfolding find_inferred_connection
-returns-in-Refused-navigate-clause-told c = told_of c.args.closeness (lent_sides c.args.kinds.now c.args.numbers.now c.args.intervals.now) c.args.made c.args.p c.args.f (Failed c.in-Refused-navigate.refusal) (search rules)
+returns-in_err-start-clause-told c = told_of c.args.closeness (lent_sides c.args.sides.now) c.args.made c.args.p c.args.f c.from_residual-in_err-start.result (search rules)
 
-pub returns-in-Reached-navigate-clause-told : goal.returns-in-Reached-navigate-clause-told
+pub returns-clause-told : goal.returns-clause-told
 unfolding find_inferred_connection
-returns-in-Reached-navigate-clause-told c = told_of c.args.closeness (lent_sides c.args.kinds.now c.args.numbers.now c.args.intervals.now) c.args.made c.args.p c.args.f c.seek.result (search rules)
+returns-clause-told c = told_of c.args.closeness (lent_sides c.args.sides.now) c.args.made c.args.p c.args.f c.seek.result (search rules)

@@ -7,7 +7,6 @@ use lib.Ieee.{Float}
 use lib.ListN.{length, set}
 use Rattle.control_point.specs.Point.{loose_point, minus_one}
 use Rattle.control_point.specs.Told.{outcome_told}
-use Rattle.control_point.specs.declared.refusal.Outcome.TheVariants.{Done}
 use Rattle.control_point.specs.declared.refusal.Refusal.TheVariants.{Full}
 use Rattle.control_point.specs.declared.t_mesh_control_point.Side.TheVariants.{Border}
 use Rattle.control_point.specs.declared.t_mesh_control_point.TmeshControlPoint.{TmeshControlPoint}
@@ -18,6 +17,7 @@ use Rattle.store.proofs.TablesLaws.{loose_told, loose_borders}
 use Rattle.store.specs.declared.store.Changed.{Changed}
 use Rattle.store.specs.declared.store.Store.{Store}
 use Rattle.store.proofs.store.make_loose.Goals as goal
+use Rattle.std.specs.Prelude.{Ok}
 
 -- the promises beside the equation follow from it
 told_of : (store : Store) (weight : Float) (r : Changed) → r ≡ make_loose store weight → outcome_told r.outcome ≡ make_loose_table store
@@ -25,7 +25,7 @@ told_of store weight r is = ap (λ (x : Changed). outcome_told x.outcome) is ∙
 
 abbrev Borders : Store → Float → Changed → Type 0
 Borders store weight r =
-    r.outcome ≡ Done
+    r.outcome ≡ Ok tt
     → ((d : TmeshDirection) → store_sides r.store store.made d ≡ Border weight)
     × (((store_point r.store store.made).s ≡ minus_one) × ((store_point r.store store.made).t ≡ minus_one))
 

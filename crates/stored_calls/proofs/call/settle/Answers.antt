@@ -5,4 +5,4 @@ use Rattle.stored_calls.proofs.call.settle.Goals as goal
 
 pub returns : goal.returns
 unfolding settled
-returns c = rw (c.number.ensures, c.byte_at.ensures) refl
+returns c = rw (c.number_of.ensures, c.byte_at.ensures) refl

@@ -3,10 +3,10 @@ use mathlib.Core.Path.{refl}
 use Rattle.stored_calls.specs.Call.{walk_is_right}
 use Rattle.stored_calls.proofs.call.walk_is_right.Goals as goal
 
-pub returns-in-Reached : goal.returns-in-Reached
+pub returns-in-Ok : goal.returns-in-Ok
 unfolding walk_is_right
-returns-in-Reached c = rw (c.both-in-Reached-2.ensures, c.both-in-Reached.ensures, c.has_bits.ensures, c.both.ensures, c.in-Reached.is) refl
+returns-in-Ok c = rw (c.both-in-Ok-2.ensures, c.both-in-Ok.ensures, c.has_bits.ensures, c.both.ensures, c.in-Ok.is) refl
 
-pub returns-in-Refused : goal.returns-in-Refused
+pub returns-in-Err : goal.returns-in-Err
 unfolding walk_is_right
-returns-in-Refused c = rw (c.number.ensures, c.in-Refused.is) refl
+returns-in-Err c = rw (c.number.ensures, c.in-Err.is) refl

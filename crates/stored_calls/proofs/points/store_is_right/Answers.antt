@@ -1,7 +1,6 @@
 -- `store_is_right` meets its contract: the loop has compared the first n points.
 use mathlib.Core.Path.{◌≡◌, sym}
 use native.Mathlib.Omega.{arith}
-use borrow.Author.Rules.{rules}
 use borrow.Author.Tests.{lt-ltb}
 use Rattle.stored_calls.specs.Points.{store_is_right}
 use Rattle.stored_calls.proofs.PointsLaws.{points_none, points_more, store_with_room}
@@ -12,14 +11,14 @@ unfolding store_is_right
 returns-then-made-gt-CAPACITY c = simp (lt-ltb _ _ c.if-made-gt-CAPACITY.true)
 
 pub loop-n-init : goal.loop-n-init
-loop-n-init c = (search rules, sym (points_none _ _))
+loop-n-init c = sym (points_none _ _)
 
 pub loop-n-preserved : goal.loop-n-preserved
-loop-n-preserved c = let l = c.loop-n in (omega (arith, c.wide.ensures), rw (c.both-right.ensures, l.invariant.1, c.point_is_right.ensures, c.after.ensures) (sym (points_more l.n _ _)))
+loop-n-preserved c = let l = c.loop-n in rw (c.both-right.ensures, l.invariant, c.point_is_right.ensures, c.after.ensures) (sym (points_more l.n _ _))
 
 pub returns : goal.returns
 returns c =
     let l = c.loop-n in
     let a = c.args in
-    let whole : l.n ≡ a.store.made = omega (arith, c.wide.ensures) in
-    rw (c.both.ensures, l.invariant.1, c.byte_at.ensures, whole) (sym (store_with_room a.store a.bytes.now (omega arith)))
+    let whole : l.n ≡ a.store.made = omega (arith, c.wide-n-end.ensures) in
+    rw (c.both.ensures, l.invariant, c.byte_at.ensures, whole) (sym (store_with_room a.store a.bytes.now (omega arith)))

@@ -1,9 +1,0 @@
--- `bench_cell_points` is safe and ends: each turn is counted.
-use Prim.Native.Nat.{◌≤◌, ◌-◌}
-use Rattle.bench_host.proofs.bench_cell_points.Given as goal
-
-abbrev pub invariant-loop-turn : goal.invariant-loop-turn
-invariant-loop-turn l = l.turn ≤ l.repeats
-
-abbrev pub decreases-loop-turn : goal.decreases-loop-turn
-decreases-loop-turn l = l.repeats - l.turn

@@ -1,9 +1,0 @@
--- `pulled_map_of` is safe and ends: each point is counted.
-use Prim.Native.Nat.{◌≤◌, ◌-◌}
-use Rattle.bench_host.proofs.pulled_map_of.Given as goal
-
-abbrev pub invariant-loop-n : goal.invariant-loop-n
-invariant-loop-n l = l.n ≤ 128
-
-abbrev pub decreases-loop-n : goal.decreases-loop-n
-decreases-loop-n l = 128 - l.n

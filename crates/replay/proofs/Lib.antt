@@ -1,0 +1,2 @@
+pub mod CasesLaws
+pub mod OutcomesLaws
