@@ -65,7 +65,8 @@ pub fn generate_knot_vectors(mut map: Tmesh) -> Generated
     ensures told { outcome_told result.outcome ≡ generated_table millionth map }
 {
     let points = map.mesh.points;
-    let sides = LentSides::of_points(points);
+    let mut sides = LentSides::blank();
+    sides.fill(points);
     let built = listed_knots(closeness(), &sides, map);
     let outcome = built.outcome;
     if let Err(refusal) = outcome {

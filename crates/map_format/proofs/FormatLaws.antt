@@ -1,7 +1,7 @@
--- Laws of the definitions of specs/Format.antt: what stands after the first bytes, what a valid file tells, and the headings one by one.
+-- Laws of the definitions of specs/Format.antt: what stands after the first bytes, what a valid file tells, the headings one by one, and one heading more.
 use Rattle.std.specs.List.{list_all, range_with_len}
-use Rattle.std.specs.Prelude.{ℕ, zero, suc, ◌+◌, ◌*◌, ◌≤◌, ◌≡◌, refl, Bool, true, false, cond, ◌&&◌, List, ltb, length, drop, Err, Ok, Result}
-use Rattle.std.proofs.Common.{sym, ap, ◌∙◌, add_assoc, arith, get_or-drop}
+use Rattle.std.specs.Prelude.{ℕ, zero, suc, ◌+◌, ◌*◌, ◌-◌, ◌≤◌, ◌<◌, ◌≡◌, refl, Bool, true, false, cond, ◌&&◌, List, ltb, length, drop, Err, Ok, Result}
+use Rattle.std.proofs.Common.{sym, ap, ◌∙◌, add-one, add_assoc, arith, get_or-drop, lt-ltb, le-ltb}
 use Rattle.big_endian.specs.BigEndian.{byte_at}
 use Rattle.big_endian.proofs.BigEndianLaws.{number_after}
 use Rattle.control_point.specs.Told.{Told, unless, refusal_told}
@@ -47,6 +47,23 @@ all_headings bytes from (suc count) =
     let next : edits_at + (from + 1) * edit_bytes ≡ edits_at + from * edit_bytes + edit_bytes = omega arith in
     ap (λ (rest : Bool). ltb (byte_at bytes (edits_at + from * edit_bytes + direction_in)) 4 && rest)
     (all_headings bytes (from + 1) count ∙ ap (headings_right count bytes) next)
+
+-- ---- one heading more
+heading_first : (count : ℕ) (bytes : List ℕ) (at : ℕ) → 0 < count
+    → headings_right count bytes at ≡ (ltb (byte_at bytes (at + direction_in)) 4 && headings_right (count - 1) bytes (at + edit_bytes))
+unfolding headings_right
+heading_first count bytes at some =
+    let back : count ≡ suc (count - 1) = omega (arith, add-one (count - 1)) in
+    ap (λ (n : ℕ). headings_right n bytes at) back
+
+-- after a right one the others decide
+pub heading_right : (count : ℕ) (bytes : List ℕ) (at : ℕ) → 0 < count → byte_at bytes (at + direction_in) < 4
+    → headings_right (count - 1) bytes (at + edit_bytes) ≡ headings_right count bytes at
+heading_right count bytes at some right = sym (heading_first count bytes at some ∙ rw (lt-ltb _ 4 right) refl)
+
+-- a wrong one decides
+pub heading_wrong : (count : ℕ) (bytes : List ℕ) (at : ℕ) → 0 < count → 4 ≤ byte_at bytes (at + direction_in) → false ≡ headings_right count bytes at
+heading_wrong count bytes at some wrong = sym (heading_first count bytes at some ∙ rw (le-ltb _ 4 wrong) refl)
 
 -- ---- what takes a file tells what its table says, if of a refused one it tells the refusal
 pub where_valid_told : (bytes : List ℕ) (told : Result ℕ Refusal → Told) → ((refusal : Refusal) → told (Err refusal) ≡ refusal_told refusal)

@@ -1,4 +1,4 @@
--- A walk tells what its table says.
+-- A walk tells what its table says, and its number is that of what it tells.
 use Prim.Native.Nat.{ℕ, zero, suc, ◌+◌, ◌-◌}
 use Rattle.std.specs.Prelude.{◌≡◌, Bool, cond, Float, Err, Ok, Result}
 use Rattle.std.proofs.Math.Path.{refl}
@@ -6,13 +6,13 @@ use Rattle.std.proofs.Math.Bool.{true, false}
 use Rattle.std.specs.Float.Ieee.{binary64, add}
 use Rattle.control_point.specs.Point.{is_made, is_link}
 use Rattle.control_point.specs.Sides.{Sides}
-use Rattle.control_point.specs.Told.{Told, unless}
+use Rattle.control_point.specs.Told.{Told, unless, number_of}
 use Rattle.control_point.specs.declared.refusal.Refusal.TheVariants.{NoPoint}
 use Rattle.control_point.specs.declared.t_mesh_control_point.Side.{Side}
 use Rattle.control_point.specs.declared.t_mesh_control_point.Side.TheVariants.{Link, Border, Opening}
 use Rattle.control_point.specs.declared.t_mesh_direction.TmeshDirection.{TmeshDirection}
 use Rattle.navigation.specs.Table.{step_table, arrive_table, onward_table, walk_table}
-use Rattle.navigation.specs.Walk.{reached_told, walk_told, step_over, arrive, onward, walk_of, walk_to}
+use Rattle.navigation.specs.Walk.{reached_told, walk_told, walk_number, step_over, arrive, onward, walk_of, walk_to}
 use Rattle.control_point.specs.declared.refusal.Refusal.{Refusal}
 use Rattle.navigation.specs.declared.walk.Walk.{Walk}
 
@@ -48,3 +48,7 @@ module _ (sides : Sides) (made : ℕ) (travel watch : TmeshDirection) where
           ≡ unless 11 a (step_table (sides start travel) (λ n interval. onward_table (made - 1) sides made travel watch n interval 1))
       by_test true = step_told (sides start travel) _ _ (λ n interval. onward_told (made - 1) n interval 1)
       by_test false = refl
+
+pub walk_numbered : (walk : Result Walk Refusal) → number_of walk ≡ walk_number walk
+walk_numbered (Ok walk) = refl
+walk_numbered (Err refusal) = refl

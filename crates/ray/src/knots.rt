@@ -157,6 +157,7 @@ pub fn point_knot_vectors(closeness: f64, store: Store, n: u8) -> KnotsAnswer
     }
     let points = store.points;
     let point = points[n as usize];
-    let sides = LentSides::of_points(points);
+    let mut sides = LentSides::blank();
+    sides.fill(points);
     knots_at(closeness, &sides, made, n, point.s, point.t)
 }

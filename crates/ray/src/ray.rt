@@ -63,6 +63,7 @@ pub fn cast_ray(
 {
     let made = store.made;
     let points = store.points;
-    let sides = LentSides::of_points(points);
+    let mut sides = LentSides::blank();
+    sides.fill(points);
     cast(closeness, &sides, made, start, direction, buffer)
 }

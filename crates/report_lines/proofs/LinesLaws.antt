@@ -1,13 +1,13 @@
 -- Laws of the lines of a report: each loop puts one line at a time, from the front of what is left.
 use Prim.Native.Nat.{ℕ, ◌+◌, ◌≤◌, ◌<◌}
-use mathlib.Core.Path.{◌≡◌, sym, ap, ◌∙◌}
+use mathlib.Core.Path.{◌≡◌, refl, sym, ap, ◌∙◌}
 use mathlib.Core.List.{List, [], ◌∷◌, ◌++◌}
 use native.Mathlib.Numerals.{add-one}
 use native.Mathlib.Omega.{arith}
 use lib.ListN.{length, get_or, drop, length-append, drop_of_length-le}
 use lib.Seq.{drop-cons}
 use Rattle.big_endian.specs.Written.{written}
-use Rattle.big_endian.proofs.WrittenLaws.{written_append}
+use Rattle.big_endian.proofs.WrittenLaws.{written_append, length_written}
 use Rattle.openings.specs.Openings.{PointSide, direction_entry, openings_answer}
 use Rattle.openings.proofs.OpeningsLaws.{no_side, answer_point, answer_direction}
 use Rattle.openings.specs.declared.list.Openings.{Openings}
@@ -19,6 +19,9 @@ use Rattle.report_lines.specs.Lines.{edit_line, edit_lines, open_line, open_line
 pub record Left (before : List ℕ) (at : ℕ) (whole out : List ℕ) (end : ℕ) (rest : List ℕ) : Type 0 where
   pub wrote : written out end rest ≡ written before at whole
   pub ends : end + length rest ≡ at + length whole
+
+pub left_all : (out : List ℕ) (at : ℕ) (whole : List ℕ) → Left out at whole out at whole
+left_all out at whole = record { wrote = refl; ends = refl }
 
 module _ {before whole out text : List ℕ} {at end : ℕ} (left : Left before at whole out end text) where
   -- the front of the rest fits, and is put
@@ -44,6 +47,9 @@ module _ {before whole out text : List ℕ} {at end : ℕ} (left : Left before a
         wrote = ap (λ (bytes : List ℕ). written out end bytes) (sym none) ∙ left.wrote;
         ends = omega (arith, left.ends, ap length none);
       }
+
+  pub left_length : length out ≡ length before
+  left_length = sym (length_written out end text) ∙ ap length left.wrote ∙ length_written before at whole
 
 -- ---- the edits
 pub edit_lines_next : (numbers : List ℕ) (i : ℕ) → i < length numbers

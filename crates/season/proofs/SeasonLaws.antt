@@ -12,10 +12,12 @@ use Rattle.control_point.specs.declared.refusal.Refusal.{Refusal}
 use Rattle.control_point.specs.declared.refusal.Refusal.TheVariants.{Length, Version, Clash, Shut}
 use Rattle.counted_file.specs.Counted.{file_told}
 use Rattle.counted_file.proofs.CountedLaws.{length_tells, valid_refused}
+use Rattle.counting.proofs.BoolLaws.{or_second}
 use Rattle.counting.specs.Counting.{some_below, last_below}
 use Rattle.counting.proofs.SomeLaws.{some_none, some_here, some_before, last_here, last_before}
-use Rattle.season_window.specs.Window.{holds_at}
-use Rattle.season.specs.Season.{windows_at, window_bytes, most_windows, closing_in, map_in, first_in, last_in, window_at, window_of, window_count, season_length_right, days_wrong, season_version_right, clashes, checked_season, some_holds, map_held, map_among, checked_map, season_map, season_told, where_season, season_table, season_map_table}
+use Rattle.season_window.specs.Window.{holds_at, can_hold}
+use Rattle.season_window.specs.declared.Window.{Window}
+use Rattle.season.specs.Season.{windows_at, window_bytes, most_windows, closing_in, map_in, first_in, last_in, window_at, window_of, window_count, season_length_right, days_wrong, season_version_right, holds_with_one, clashes, checked_season, some_holds, map_held, map_among, checked_map, season_map, season_told, where_season, season_table, season_map_table}
 
 -- ---- what stands after the first bytes stands in all bytes, that many places on
 window_after : (season : List ℕ) (count at : ℕ) → window_at (drop count season) at ≡ window_at season (count + at)
@@ -58,6 +60,24 @@ any_below test (suc n) =
 pub map_none : (season : List ℕ) (minute count : ℕ) → count ≤ 0 → Err Shut ≡ map_among season minute count
 map_none season minute count none =
     ap (λ (some : Bool). cond some (Ok (map_held season minute count)) (Err Shut)) (some_none count (λ n. holds_at (window_of season n) minute) none)
+
+module _ (season : List ℕ) (count : ℕ) (some : 0 < count) where
+  newest : Window
+  newest = window_of season (count - 1)
+
+  pub clash_alone : can_hold (window_of season (count - 1)) ≡ false → true ≡ clashes season count
+  unfolding newest
+  clash_alone never = some_here count _ some (ap (λ (can : Bool). not can || holds_with_one season (count - 1) newest) never)
+
+  pub clash_with : holds_with_one season (count - 1) (window_of season (count - 1)) ≡ true → true ≡ clashes season count
+  unfolding newest
+  clash_with meets = some_here count _ some (or_second (not (can_hold newest)) (holds_with_one season (count - 1) newest) meets)
+
+  pub clash_before : can_hold (window_of season (count - 1)) ≡ true → holds_with_one season (count - 1) (window_of season (count - 1)) ≡ false
+      → clashes season (count - 1) ≡ clashes season count
+  unfolding newest
+  clash_before can apart =
+      some_before count _ some (ap (λ (can : Bool). not can || holds_with_one season (count - 1) newest) can ∙ apart)
 
 module _ (season : List ℕ) (minute count : ℕ) (some : 0 < count) where
   holds : ℕ → Bool

@@ -52,7 +52,12 @@ fn days_wrong(season: &[u8], count: usize) -> bool
     requires { count ≤ most_windows }
     ensures { result ≡ days_wrong season.now count }
 {
-    (0..count).any(|n| window_of(season, n).past_day())
+    for n in (0..count).rev() {
+        if window_of(season, n).past_day() {
+            return true;
+        }
+    }
+    false
 }
 
 // Whether a window holds in some common minute with one of the first so many.
@@ -60,7 +65,12 @@ fn holds_with_one(season: &[u8], count: usize, window: Window) -> bool
     requires { count ≤ most_windows }
     ensures { result ≡ holds_with_one season.now count window }
 {
-    (0..count).any(|n| window.holds_with(window_of(season, n)))
+    for n in (0..count).rev() {
+        if window.holds_with(window_of(season, n)) {
+            return true;
+        }
+    }
+    false
 }
 
 // Whether, of the first so many windows, one can hold in no minute, or holds in some common minute with one before it.
@@ -68,10 +78,16 @@ fn clashes(season: &[u8], count: usize) -> bool
     requires { count ≤ most_windows }
     ensures { result ≡ clashes season.now count }
 {
-    (0..count).any(|n| {
+    for n in (0..count).rev() {
         let window = window_of(season, n);
-        !window.can_hold() || holds_with_one(season, n, window)
-    })
+        if !window.can_hold() {
+            return true;
+        }
+        if holds_with_one(season, n, window) {
+            return true;
+        }
+    }
+    false
 }
 
 // A season's count of windows, or why it is refused.

@@ -1,9 +1,10 @@
 -- What code decides is right: the first minute of a window's part of the day, from its opening on, is a minute at which it holds if there is one; and the part that two windows share
 -- holds where both do.
 use Rattle.std.specs.Prelude.{ℕ, ◌+◌, ◌-◌, ◌%◌, ◌^◌, ◌≤◌, ◌<◌, min, ◌≡◌, refl, Bool, true, false, cond, ◌&&◌, leb, ltb}
-use Rattle.std.proofs.Common.{◌∙◌, arith, lt-ltb, le-leb, ltb-true, ltb-false, leb-true}
+use Rattle.std.proofs.Math.Path.{sym}
+use Rattle.std.proofs.Common.{ap, ◌∙◌, arith, lt-ltb, le-ltb, le-leb, ltb-true, ltb-false, leb-true}
 use Rattle.std.proofs.Math.Nat.{le-max_left, le-max_right, min-le_left, min-le_right, max-le, le-min}
-use Rattle.counting.proofs.BoolLaws.{and_both, same_tests}
+use Rattle.counting.proofs.BoolLaws.{and_both, not_held, same_tests}
 use Rattle.counting.proofs.SomeLaws.{some_is, some_same}
 use Rattle.season_window.specs.Decision.{common, first_minute, decided}
 use Rattle.season_window.specs.Theorems.{Holds}
@@ -38,7 +39,35 @@ holds_shows w m h =
       lt-ltb (m % day_minutes) w.last h.unended,
     )
 
+never : (w : Window) (m : ℕ) → (Holds w m → ⊥) → holds_at w m ≡ false
+never w m out = not_held (holds_at w m) (λ holds. out (holds_tells w m holds))
+
+-- a minute out of the window, on one side or the other, in the season or in the day
+pub before_opening : (w : Window) (m : ℕ) → m < w.opening → false ≡ holds_at w m
+before_opening w m out = sym (never w m (λ h. let opened = h.opened in omega arith))
+
+pub from_closing : (w : Window) (m : ℕ) → w.closing ≤ m → false ≡ holds_at w m
+from_closing w m out = sym (never w m (λ h. let unclosed = h.unclosed in omega arith))
+
+pub before_first : (w : Window) (m : ℕ) → m % day_minutes < w.first → false ≡ holds_at w m
+before_first w m out = sym (never w m (λ h. let begun = h.begun in omega arith))
+
+-- on none of these three, the last minute decides
+pub last_decides : (w : Window) (m : ℕ) → w.opening ≤ m → m < w.closing → w.first ≤ m % day_minutes → ltb (m % day_minutes) w.last ≡ holds_at w m
+unfolding holds_at
+last_decides w m opened unclosed begun = rw (le-leb w.opening m opened, lt-ltb m w.closing unclosed, le-leb w.first (m % day_minutes) begun) refl
+
 -- ---- the first minute
+pub first_today : (opening first last : ℕ) → opening % day_minutes < first → opening + (first - opening % day_minutes) ≡ first_minute opening first last
+first_today opening first last before = rw (lt-ltb (opening % day_minutes) first before) refl
+
+pub first_now : (opening first last : ℕ) → first ≤ opening % day_minutes → opening % day_minutes < last → opening ≡ first_minute opening first last
+first_now opening first last begun inside = rw (le-ltb (opening % day_minutes) first begun, lt-ltb (opening % day_minutes) last inside) refl
+
+pub first_tomorrow : (opening first last : ℕ) → first ≤ opening % day_minutes → last ≤ opening % day_minutes
+    → opening + (day_minutes - opening % day_minutes) + first ≡ first_minute opening first last
+first_tomorrow opening first last begun beyond = rw (le-ltb (opening % day_minutes) first begun, le-ltb (opening % day_minutes) last beyond) refl
+
 -- it is one of the day's part, from the opening on, and none before it is
 first_in_lem : (opening first last : ℕ) → first < last → last ≤ day_minutes
     → (opening ≤ first_minute opening first last) × (first ≤ first_minute opening first last % day_minutes) × (first_minute opening first last % day_minutes < last)
@@ -92,6 +121,22 @@ decided_right w bits = some_is season_minutes (holds_at w) (decided w) found lea
         let unclosed = h.unclosed in
         let unended : m % day_minutes < last = le-min h.unended (omega arith) in
         rw (lt-ltb w.first last (omega arith)) (lt-ltb at w.closing (omega (arith, first_least w.opening w.first last m h.opened begun unended)))
+
+-- where its part of the day is empty, and where it is not
+module _ (w : Window) (bits : w.closing ≤ 2 ^ 32) where
+  last : ℕ
+  last = min w.last day_minutes
+
+  unclosed : Bool
+  unclosed = ltb (first_minute w.opening w.first last) w.closing
+
+  pub never_held : min w.last day_minutes ≤ w.first → false ≡ can_hold w
+  unfolding last unclosed
+  never_held empty = sym (ap (λ (some : Bool). some && unclosed) (le-ltb w.first last empty)) ∙ decided_right w bits
+
+  pub first_decides : w.first < min w.last day_minutes → ltb (first_minute w.opening w.first (min w.last day_minutes)) w.closing ≡ can_hold w
+  unfolding last unclosed
+  first_decides some = sym (ap (λ (begun : Bool). begun && unclosed) (lt-ltb w.first last some)) ∙ decided_right w bits
 
 -- ---- what two windows share
 common_holds : (w v : Window) (m : ℕ) → holds_at (common w v) m ≡ (holds_at w m && holds_at v m)

@@ -22,6 +22,7 @@ pub fn navigate_until_con(
 {
     let made = store.made;
     let points = store.points;
-    let sides = LentSides::of_points(points);
+    let mut sides = LentSides::blank();
+    sides.fill(points);
     navigate(&sides, made, start, travel, watch)
 }

@@ -1,8 +1,9 @@
 -- The calls that are left, and the store at the end: the two clauses of `calls_are_right`, with the calls counted that were made.
 use Rattle.std.specs.Prelude.{ℕ, ◌+◌, ◌-◌, ◌<◌, ◌≤◌, Bool, ◌&&◌, List, ◌≡◌, refl, drop}
-use Rattle.std.proofs.Common.{sym, ap, ◌∙◌, add-one, arith}
+use Rattle.std.proofs.Common.{sym, ap, subst, ◌∙◌, add-one, arith}
 use Rattle.store.specs.declared.store.Store.{Store}
 use Rattle.stored_calls.specs.Call.{replay_call}
+use Rattle.stored_calls.proofs.CallLaws.{call_short}
 use Rattle.stored_calls.specs.declared.call.Replayed.{Replayed}
 use Rattle.big_endian.specs.BigEndian.{byte_at}
 use Rattle.store_replay.specs.List.{onward, is_store, calls_are_right}
@@ -24,3 +25,7 @@ calls_more count made bytes store right replayed some is =
     ap (onward (calls_are_right (count - (made + 1))) bytes right) is
     ∙ sym (one_more (count - (made + 1)) bytes store right)
     ∙ ap (λ (left : ℕ). calls_are_right left bytes store right) {x = count - (made + 1) + 1} {y = count - made} (omega arith)
+
+-- a call made takes at most 19 bytes
+pub made_short : (kind : ℕ) (call : List ℕ) (store : Store) (replayed : Replayed) → replayed ≡ replay_call kind call store → replayed.bytes < 20
+made_short kind call store replayed made = subst (λ (r : Replayed). r.bytes < 20) (sym made) (call_short kind call store)

@@ -1,5 +1,5 @@
 -- Laws of evaluation: a point's part by its two basis functions; a sum that stands at a number is the whole sum once the rest is added, whatever its parts are; the four sums of an
--- evaluation stand together; maps that agree at their listed points have one value; the map by whose knots it is; and what its tables say.
+-- evaluation stand together; maps that agree at their listed points have one value; the map by whose knots it is; what its tables say; and its number, which is that of what it tells.
 use Prim.Native.Nat.{ℕ, zero, suc, ◌+◌, ◌-◌, ◌<◌}
 use Rattle.std.specs.Prelude.{◌≡◌, Bool, Float, Err, Ok, Result, ⊤}
 use Rattle.std.proofs.Math.Path.{refl, ap}
@@ -9,13 +9,13 @@ use Rattle.std.specs.Float.Ieee.{binary64, add, mul, div}
 use Rattle.float64.specs.Literals.{zero_literal}
 use Rattle.basis.specs.Binary64.{binary64_arithmetic, knots}
 use Rattle.basis.specs.Formula.{formula}
-use Rattle.control_point.specs.Told.{Told, refused_or}
+use Rattle.control_point.specs.Told.{Told, refused_or, number_of}
 use Rattle.ray.specs.declared.knots.PointKnots.{PointKnots}
 use Rattle.t_mesh.specs.Tmesh.{Axis, X, Y, Z, coordinate, place_under, position_of, is_listed}
 use Rattle.t_mesh.specs.declared.t_mesh.Place.{Place}
 use Rattle.t_mesh.specs.declared.t_mesh.Position.{Position}
 use Rattle.t_mesh.specs.declared.t_mesh.Tmesh.{Tmesh}
-use Rattle.surface.specs.Evaluation.{knots_of, weight_of, share_by, sum_from, sum_of, share_with, value_with, value_told, evaluation_told, value_of, answer_by, evaluated_by, with_knots, with_knots_table, subs_of, subs_table}
+use Rattle.surface.specs.Evaluation.{knots_of, weight_of, share_by, sum_from, sum_of, share_with, value_with, value_told, evaluation_told, evaluation_number, value_of, answer_by, evaluated_by, with_knots, with_knots_table, subs_of, subs_table}
 use Rattle.knot_vectors.specs.Knots.{AllKnots, all, none, all_knots, keeping, generate_knot_vectors}
 use Rattle.surface.specs.declared.evaluation.Evaluation.{Evaluation}
 use Rattle.surface.specs.declared.evaluation.Share.{Share}
@@ -188,3 +188,8 @@ answer_told_lem (Err refusal) value = refl
 pub subs_told : (e : Float) (map : Tmesh) (s t : Float) → evaluation_told (subs_of e map s t).answer ≡ subs_table e map s t
 unfolding subs_of
 subs_told e map s t = answer_told_lem (with_knots e map).outcome (value_of (with_knots e map).map s t) ∙ with_knots_told e map (λ own. value_told (value_of own s t))
+
+-- ---- its number
+pub evaluation_numbered : (answer : Result Evaluation Refusal) → number_of answer ≡ evaluation_number answer
+evaluation_numbered (Ok value) = refl
+evaluation_numbered (Err refusal) = refl

@@ -1,15 +1,21 @@
--- `holds_with_one` meets its contract: `any` asks what the definition asks of each window.
-use Rattle.std.proofs.Common.{ℕ, ◌∙◌, rules, arith, refl}
-use Rattle.std.proofs.lemmas.Iterator.{YieldsList-from_range}
-use Rattle.std.proofs.lemmas.Iterator.Search.{any_from_yields_List}
-use borrow.Author.Tests.{tests}
+-- `holds_with_one` meets its contract: what is left decides as all do, until one holds with the window or none is left.
+use mathlib.Core.Path.{sym, ap, ◌∙◌}
+use native.Mathlib.Omega.{arith}
+use Rattle.counting.proofs.SomeLaws.{some_none, some_here, some_before}
 use Rattle.season_window.specs.Window.{hold_together}
-use Rattle.season.specs.Season.{window_of}
-use Rattle.season.proofs.SeasonLaws.{any_below}
 use Rattle.season.proofs.holds_with_one.Goals as goal
 
+pub returns-then-holds_with : goal.returns-then-holds_with
+returns-then-holds_with c =
+    let l = c.loop-n in
+    let window = c.args.window in
+    some_here l.n _ (omega arith) (sym (c.holds_with.ensures ∙ ap (hold_together window) c.window_of.ensures) ∙ c.if-holds_with.true) ∙ l.invariant
+
+pub loop-n-preserved : goal.loop-n-preserved
+loop-n-preserved c =
+    let l = c.loop-n in
+    let window = c.args.window in
+    some_before l.n _ (omega arith) (sym (c.holds_with.ensures ∙ ap (hold_together window) c.window_of.ensures) ∙ c.if-holds_with.false) ∙ l.invariant
+
 pub returns : goal.returns
-returns c =
-    let season = c.args.season.now in
-    any_from_yields_List (λ (n : ℕ). hold_together c.args.window (window_of season n)) _ _ _ c.any.ensures.ran (YieldsList-from_range 0 c.args.count c.args.count refl (omega arith)) (λ x b q k. search (rules, tests))
-    ∙ any_below _ c.args.count
+returns c = let l = c.loop-n in some_none l.n _ (omega arith) ∙ l.invariant

@@ -23,5 +23,5 @@ returns c =
     let all = (let a = c.args in
     (let a = c.args in beside knots_told _ _ (knots_told_lem a.closeness a.store a.n) _)
     (c.knots_at.ensures
-    ∙ ap (λ (sides : Sides). knots_at a.closeness sides a.store.made a.n (store_point a.store a.n).s (store_point a.store a.n).t) c.of_points-sides.ensures
+    ∙ ap (λ (sides : Sides). knots_at a.closeness sides a.store.made a.n (store_point a.store a.n).s (store_point a.store a.n).t) c.fill.ensures.1
     ∙ sym (simp ((sym c.is_made.ensures ∙ c.if-not-is_made.false))))) in record { is = all.0; told = all.1 }

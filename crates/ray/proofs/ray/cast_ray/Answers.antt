@@ -11,4 +11,4 @@ returns c =
     let all = (let a = c.args in
     beside cast_told _ _ (cast_told_lem a.closeness a.store a.start a.direction a.buffer.now) _
     (c.cast.ensures
-    ∙ ap (λ (sides : Sides). cast_over a.closeness sides a.store.made a.start a.direction a.buffer.now) c.of_points-sides.ensures)) in record { is = all.0; told = all.1 }
+    ∙ ap (λ (sides : Sides). cast_over a.closeness sides a.store.made a.start a.direction a.buffer.now) c.fill.ensures.1)) in record { is = all.0; told = all.1 }

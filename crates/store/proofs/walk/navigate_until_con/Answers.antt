@@ -11,4 +11,4 @@ pub returns : goal.returns
 returns c =
     let all = (let a = c.args in
     beside walk_told _ _ (walk_told_lem (store_sides a.store) a.store.made a.travel a.watch a.start) _
-    (c.navigate.ensures ∙ ap (λ (sides : Sides). walk_of sides a.store.made a.start a.travel a.watch) c.of_points-sides.ensures)) in record { is = all.0; told = all.1 }
+    (c.navigate.ensures ∙ ap (λ (sides : Sides). walk_of sides a.store.made a.start a.travel a.watch) c.fill.ensures.1)) in record { is = all.0; told = all.1 }
