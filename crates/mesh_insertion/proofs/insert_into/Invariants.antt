@@ -6,8 +6,10 @@ use Rattle.mesh_insertion.proofs.insert_into.Given as goal
 
 abbrev pub invariant-loop-n : goal.invariant-loop-n
 invariant-loop-n l =
-    Room l.points × FilledTo l.n (lent_points l.points) l.mesh.points
+    Room l.points × FilledTo l.n (lent_points l.points) l.inserted.mesh.points
 
 abbrev pub invariant-loop-n-then-not-is_refused : goal.invariant-loop-n-then-not-is_refused
 invariant-loop-n-then-not-is_refused l =
-    (l.mesh.places ≡ l.initial.mesh.places) × ((l.mesh.listed ≡ l.initial.mesh.listed) × PackedTo l.n (lent_points l.points) l.initial.mesh.points l.mesh.points)
+    (l.inserted.answer ≡ l.initial.inserted.answer)
+    × ((l.inserted.mesh.places ≡ l.initial.inserted.mesh.places)
+    × ((l.inserted.mesh.listed ≡ l.initial.inserted.mesh.listed) × PackedTo l.n (lent_points l.points) l.initial.inserted.mesh.points l.inserted.mesh.points))
