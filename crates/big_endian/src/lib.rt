@@ -63,7 +63,7 @@ pub fn float_at(bytes: &[u8], at: usize) -> f64
 pub fn after(bytes: &[u8], count: usize) -> &[u8]
     ensures { result.now ≡ drop count bytes.now }
 {
-    bytes.get(count..).unwrap_or(&[])
+    &bytes[count.min(bytes.len())..]
 }
 
 // Writes bytes from a place on, as far as the buffer reaches. Where it has room for all, the compiler makes one store of a number's.
